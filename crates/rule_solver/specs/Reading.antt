@@ -3,7 +3,7 @@ use Rattle.std.specs.Prelude.{◌≡◌, ◌<◌, ◌≤◌, ◌↔◌, ℕ, ◌
 use Rattle.cell_rings.specs.Rings.{Ring}
 use Rattle.cell_rings.specs.Sums.{cell_at}
 use Rattle.factor_core.specs.declared.slots.Slot.{Slot}
-use Rattle.factor_core.specs.Slots.{IsLiveSlot, table_of}
+use Rattle.factor_core.specs.Slots.{IsLiveSlot, part, table_of}
 use Rattle.finite_sums.specs.Sums.{World, InRange}
 use Rattle.maid_model.specs.Diagrams.{greatest_number}
 use Rattle.maid_model.specs.Nodes.{parents_of, rows_of, rows_under, states_of}
@@ -99,6 +99,10 @@ FitTimes nodes number factor =
 -- its slot is live
 abbrev pub HasLiveSlot : {C : Type 0} → LastTable C → Type 0
 HasLiveSlot t = IsLiveSlot t.diagram.now.nodes t.work.now.cells t.slot.now
+
+-- its cells
+abbrev pub last_cells : {C : Type 0} → LastTable C → List C
+last_cells t = part t.work.now.cells t.slot.now.start t.slot.now.len
 
 -- it is over the decision and its parents
 abbrev pub IsOverStates : {C : Type 0} → LastTable C → Type 0

@@ -5,10 +5,11 @@ ghost use Rattle.factor_core.specs.Slots.{nodes_in};
 ghost use Rattle.maid_model.specs.Diagrams.{greatest_number};
 ghost use Rattle.maid_model.specs.Nodes.{IsDecision, rows_of};
 ghost use Rattle.node_sets.specs.Sets.{holds};
-ghost use Rattle.rule_solver.specs.Reading.{AddsEach, AddsSlot, FitEach, FitsSlot, HasGainForEach, HasLiveSlot, HasRoomAtPlace, HasRoomForEach, HasRoomForSlot, IsOverRows, IsOverStates, PutsSlot, added_at, number_in_cell, PutsCells};
+ghost use Rattle.rule_solver.specs.Reading.{AddsEach, AddsSlot, FitEach, FitsSlot, HasGainForEach, HasLiveSlot, HasRoomAtPlace, HasRoomForEach, HasRoomForSlot, IsOverRows, IsOverStates, PutsSlot, added_at, last_cells, number_in_cell, PutsCells};
 
 use crate::numbers::{HasNumber, Number};
 use crate::odometer::next_over;
+use cell_rings::Cell;
 use factor_core::{Slot, Strip, Workspace};
 use maid_model::{Diagram, World};
 use node_sets::NodeSet;
@@ -24,6 +25,19 @@ pub(crate) struct LastTable<'a, C> {
     pub work: &'a Workspace<C>,
     pub slot: &'a Slot,
     pub factor: u128,
+}
+
+impl<'a, C: Cell> LastTable<'a, C> {
+    /// The cells, as they stand in the workspace.
+    fn cells(&self) -> &[C]
+        requires { HasLiveSlot self.now }
+        ensures { result.now ≡ last_cells self.now }
+    {
+        self.work.strip(&Strip {
+            start: self.slot.start,
+            len: self.slot.len,
+        })
+    }
 }
 
 /// The nodes of the scope in ascending order.
@@ -106,11 +120,7 @@ fn add_by_worlds<C: HasNumber>(
 {
     let scope = list_scope(alloc, table.diagram, &table.slot.scope)?;
     let mut world = World::first(alloc, table.diagram)?;
-    let strip = Strip {
-        start: table.slot.start,
-        len: table.slot.len,
-    };
-    for cell in table.work.strip(&strip) {
+    for cell in table.cells() {
         let at = world.cell(table.diagram, table.decision);
         add_number(gains, at, cell.number(), table.factor);
         next_over(&mut world, table.diagram, scope.as_slice());
@@ -146,11 +156,7 @@ pub(crate) fn add_gains<C: HasNumber>(
         table.diagram.parents(table.decision),
         table.decision,
     ) {
-        let strip = Strip {
-            start: table.slot.start,
-            len: table.slot.len,
-        };
-        add_cells(table.work.strip(&strip), table.factor, gains);
+        add_cells(table.cells(), table.factor, gains);
         return Ok(());
     }
     add_by_worlds(alloc, table, gains)
@@ -198,11 +204,7 @@ fn put_by_worlds<C: Number>(
 {
     let scope = list_scope(alloc, table.diagram, &table.slot.scope)?;
     let mut world = World::first(alloc, table.diagram)?;
-    let strip = Strip {
-        start: table.slot.start,
-        len: table.slot.len,
-    };
-    for cell in table.work.strip(&strip) {
+    for cell in table.cells() {
         let mass = mass_of(cell.number(), table.factor);
         masses[world.row(table.diagram, table.decision)] = mass;
         next_over(&mut world, table.diagram, scope.as_slice());
@@ -233,11 +235,7 @@ pub(crate) fn put_masses<C: Number>(
 {
     let scope = list_scope(alloc, table.diagram, &table.slot.scope)?;
     if is_same(scope.as_slice(), table.diagram.parents(table.decision)) {
-        let strip = Strip {
-            start: table.slot.start,
-            len: table.slot.len,
-        };
-        put_cells(table.work.strip(&strip), table.factor, masses);
+        put_cells(table.cells(), table.factor, masses);
         return Ok(());
     }
     put_by_worlds(alloc, table, masses)

@@ -16,9 +16,9 @@ loop-cell-init g c = no_gains g.C.Cell.ring g.C.HasNumber.number c.args.table.no
 pub add_number-requires-clause-room : goal.add_number-requires-clause-room
 add_number-requires-clause-room g c =
     let fits : FitsSigned w128 c.number.result = search rules in
-    subst (λ z. nat_abs (get_or c.loop-cell.gains c.cell-at.result (pos 0)) + nat_abs (z *ℤ pos c.args.table.now.factor) ≤ greatest_number) (sym (to_z-of_z w128 c.number.result fits ∙ c.number.ensures ∙ ap g.C.HasNumber.number (c.cell-item.is ∙ get_or_default c.strip-cell-items.result.now c.loop-cell.cell-index c.cell-item.result g.C.Cell.ring.nought c.loop-cell-test.true)))
+    subst (λ z. nat_abs (get_or c.loop-cell.gains c.cell-at.result (pos 0)) + nat_abs (z *ℤ pos c.args.table.now.factor) ≤ greatest_number) (sym (to_z-of_z w128 c.number.result fits ∙ c.number.ensures ∙ ap g.C.HasNumber.number (c.cell-item.is ∙ get_or_default c.cells-cell-items.result.now c.loop-cell.cell-index c.cell-item.result g.C.Cell.ring.nought c.loop-cell-test.true)))
     (gain_fits g.C.Cell.ring g.C.HasNumber.number c.args.table.now.diagram.now.nodes c.args.table.now.decision c.args.table.now.work.now.cells c.args.table.now.slot.now c.args.table.now.factor c.args.gains.now c.requires.live c.requires.scope c.loop-cell.gains c.loop-cell.world c.loop-cell.cell-index c.loop-cell.invariant
-    c.strip-cell-items.result.now c.strip-cell-items.ensures c.loop-cell-test.true c.cell-at.result c.cell-at.ensures.cell c.requires.room)
+    c.cells-cell-items.result.now c.cells-cell-items.ensures c.loop-cell-test.true c.cell-at.result c.cell-at.ensures.cell c.requires.room)
 
 pub next_over-requires-clause-once : goal.next_over-requires-clause-once
 next_over-requires-clause-once g c = subst AllDifferent (sym (c.as_slice.ensures.value ∙ c.in_ok-scope.ensures)) (scope_once c.args.table.now.diagram.now.nodes (holds c.args.table.now.slot.now.scope))
@@ -31,12 +31,12 @@ pub loop-cell-preserved : goal.loop-cell-preserved
 loop-cell-preserved g c =
     let fits : FitsSigned w128 c.number.result = search rules in
     gains_step g.C.Cell.ring g.C.HasNumber.number c.args.table.now.diagram.now.nodes c.args.table.now.decision c.args.table.now.work.now.cells c.args.table.now.slot.now c.args.table.now.factor c.args.gains.now c.requires.live c.requires.scope c.loop-cell.gains c.loop-cell.world c.loop-cell.cell-index c.loop-cell.invariant
-    c.strip-cell-items.result.now c.strip-cell-items.ensures c.loop-cell-test.true c.cell-at.result c.cell-at.ensures.cell
+    c.cells-cell-items.result.now c.cells-cell-items.ensures c.loop-cell-test.true c.cell-at.result c.cell-at.ensures.cell
     c.add_number.new.gains c.next_over.new.world c.as_slice.result.now (omega (arith, c.cell-at.ensures.within, c.requires.gains, c.loop-cell.invariant.done.len))
-    (c.add_number.ensures ∙ ap (λ z. set c.loop-cell.gains c.cell-at.result (get_or c.loop-cell.gains c.cell-at.result (pos 0) +ℤ (z *ℤ pos c.args.table.now.factor))) (to_z-of_z w128 c.number.result fits ∙ c.number.ensures ∙ ap g.C.HasNumber.number (c.cell-item.is ∙ get_or_default c.strip-cell-items.result.now c.loop-cell.cell-index c.cell-item.result g.C.Cell.ring.nought c.loop-cell-test.true)))
+    (c.add_number.ensures ∙ ap (λ z. set c.loop-cell.gains c.cell-at.result (get_or c.loop-cell.gains c.cell-at.result (pos 0) +ℤ (z *ℤ pos c.args.table.now.factor))) (to_z-of_z w128 c.number.result fits ∙ c.number.ensures ∙ ap g.C.HasNumber.number (c.cell-item.is ∙ get_or_default c.cells-cell-items.result.now c.loop-cell.cell-index c.cell-item.result g.C.Cell.ring.nought c.loop-cell-test.true)))
     (c.as_slice.ensures.value ∙ c.in_ok-scope.ensures) c.next_over.ensures.world c.next_over.ensures.row
 
 pub returns-clause-adds : goal.returns-clause-adds
 returns-clause-adds g c =
     all_gains g.C.Cell.ring g.C.HasNumber.number c.args.table.now.diagram.now.nodes c.args.table.now.decision c.args.table.now.work.now.cells c.args.table.now.slot.now c.args.table.now.factor c.args.gains.now c.requires.live c.requires.scope c.loop-cell.gains c.loop-cell.world c.loop-cell.cell-index
-    c.strip-cell-items.result.now c.loop-cell.invariant c.strip-cell-items.ensures c.loop-cell-test.false
+    c.cells-cell-items.result.now c.loop-cell.invariant c.cells-cell-items.ensures c.loop-cell-test.false

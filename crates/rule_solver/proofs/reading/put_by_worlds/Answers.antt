@@ -16,22 +16,22 @@ loop-cell-init g c = no_masses g.C.Cell.ring g.C.HasNumber.number c.args.table.n
 pub mass_of-mass-requires : goal.mass_of-mass-requires
 mass_of-mass-requires g c =
     let fits : FitsSigned w128 c.number.result = search rules in
-    subst (λ z. nat_abs z * c.args.table.now.factor ≤ greatest_number) (sym (to_z-of_z w128 c.number.result fits ∙ c.number.ensures ∙ ap g.C.HasNumber.number (c.cell-item.is ∙ get_or_default c.strip-cell-items.result.now c.loop-cell.cell-index c.cell-item.result g.C.Cell.ring.nought c.loop-cell-test.true)))
+    subst (λ z. nat_abs z * c.args.table.now.factor ≤ greatest_number) (sym (to_z-of_z w128 c.number.result fits ∙ c.number.ensures ∙ ap g.C.HasNumber.number (c.cell-item.is ∙ get_or_default c.cells-cell-items.result.now c.loop-cell.cell-index c.cell-item.result g.C.Cell.ring.nought c.loop-cell-test.true)))
     (mass_fits g.C.Cell.ring g.C.HasNumber.number c.args.table.now.diagram.now.nodes c.args.table.now.decision c.args.table.now.work.now.cells c.args.table.now.slot.now c.args.table.now.factor c.args.masses.now c.requires.live c.requires.scope c.loop-cell.masses c.loop-cell.world c.loop-cell.cell-index c.loop-cell.invariant
-    c.strip-cell-items.result.now c.strip-cell-items.ensures c.loop-cell-test.true c.requires.room)
+    c.cells-cell-items.result.now c.cells-cell-items.ensures c.loop-cell-test.true c.requires.room)
 
 pub offset_bounds-masses-row : goal.offset_bounds-masses-row
 offset_bounds-masses-row g c =
     omega (
       arith,
       row_within g.C.Cell.ring g.C.HasNumber.number c.args.table.now.diagram.now.nodes c.args.table.now.decision c.args.table.now.work.now.cells c.args.table.now.slot.now c.args.table.now.factor c.args.masses.now c.requires.live c.requires.scope c.loop-cell.masses c.loop-cell.world c.loop-cell.cell-index c.loop-cell.invariant
-          c.strip-cell-items.result.now c.strip-cell-items.ensures c.loop-cell-test.true c.row.result c.row.ensures c.requires.masses,
+          c.cells-cell-items.result.now c.cells-cell-items.ensures c.loop-cell-test.true c.row.result c.row.ensures c.requires.masses,
     )
 
 pub bounds-masses-row : goal.bounds-masses-row
 bounds-masses-row g c =
     row_within g.C.Cell.ring g.C.HasNumber.number c.args.table.now.diagram.now.nodes c.args.table.now.decision c.args.table.now.work.now.cells c.args.table.now.slot.now c.args.table.now.factor c.args.masses.now c.requires.live c.requires.scope c.loop-cell.masses c.loop-cell.world c.loop-cell.cell-index c.loop-cell.invariant
-    c.strip-cell-items.result.now c.strip-cell-items.ensures c.loop-cell-test.true c.row.result c.row.ensures c.requires.masses
+    c.cells-cell-items.result.now c.cells-cell-items.ensures c.loop-cell-test.true c.row.result c.row.ensures c.requires.masses
 
 pub next_over-requires-clause-once : goal.next_over-requires-clause-once
 next_over-requires-clause-once g c = subst AllDifferent (sym (c.as_slice.ensures.value ∙ c.in_ok-scope.ensures)) (scope_once c.args.table.now.diagram.now.nodes (holds c.args.table.now.slot.now.scope))
@@ -44,12 +44,12 @@ pub loop-cell-preserved : goal.loop-cell-preserved
 loop-cell-preserved g c =
     let fits : FitsSigned w128 c.number.result = search rules in
     subst (λ m. MassesSoFar g.C.Cell.ring g.C.HasNumber.number c.args.table.now.diagram.now.nodes c.args.table.now.decision c.args.table.now.work.now.cells c.args.table.now.slot.now c.args.table.now.factor c.args.masses.now (set c.loop-cell.masses c.row.result m) c.next_over.new.world (c.loop-cell.cell-index + 1))
-    (sym (c.mass_of-mass.ensures ∙ ap (λ z. nat_abs z * c.args.table.now.factor) (to_z-of_z w128 c.number.result fits ∙ c.number.ensures ∙ ap g.C.HasNumber.number (c.cell-item.is ∙ get_or_default c.strip-cell-items.result.now c.loop-cell.cell-index c.cell-item.result g.C.Cell.ring.nought c.loop-cell-test.true))))
+    (sym (c.mass_of-mass.ensures ∙ ap (λ z. nat_abs z * c.args.table.now.factor) (to_z-of_z w128 c.number.result fits ∙ c.number.ensures ∙ ap g.C.HasNumber.number (c.cell-item.is ∙ get_or_default c.cells-cell-items.result.now c.loop-cell.cell-index c.cell-item.result g.C.Cell.ring.nought c.loop-cell-test.true))))
     (masses_step g.C.Cell.ring g.C.HasNumber.number c.args.table.now.diagram.now.nodes c.args.table.now.decision c.args.table.now.work.now.cells c.args.table.now.slot.now c.args.table.now.factor c.args.masses.now c.requires.live c.requires.scope c.loop-cell.masses c.loop-cell.world c.loop-cell.cell-index c.loop-cell.invariant
-    c.strip-cell-items.result.now c.strip-cell-items.ensures c.loop-cell-test.true c.row.result c.row.ensures c.requires.masses
+    c.cells-cell-items.result.now c.cells-cell-items.ensures c.loop-cell-test.true c.row.result c.row.ensures c.requires.masses
     c.next_over.new.world c.as_slice.result.now (c.as_slice.ensures.value ∙ c.in_ok-scope.ensures) c.next_over.ensures.world c.next_over.ensures.row)
 
 pub returns-clause-puts : goal.returns-clause-puts
 returns-clause-puts g c =
     all_masses g.C.Cell.ring g.C.HasNumber.number c.args.table.now.diagram.now.nodes c.args.table.now.decision c.args.table.now.work.now.cells c.args.table.now.slot.now c.args.table.now.factor c.args.masses.now c.requires.live c.requires.scope c.loop-cell.masses c.loop-cell.world c.loop-cell.cell-index
-    c.strip-cell-items.result.now c.loop-cell.invariant c.strip-cell-items.ensures c.loop-cell-test.false
+    c.cells-cell-items.result.now c.loop-cell.invariant c.cells-cell-items.ensures c.loop-cell-test.false

@@ -14,7 +14,7 @@ put_cells-requires-clause-room g c i h =
     let d = c.args.table.now.decision in
     let slot = c.args.table.now.slot.now in
     let same : nodes_in nodes (holds slot.scope) ≡ parents_of nodes d = sym (c.as_slice.ensures.value ∙ c.in_ok-scope.ensures) ∙ c.is_same.ensures.0 c.if-is_same.true ∙ c.parents.ensures.parents in
-    subst (λ cells. nat_abs (g.C.HasNumber.number (cell_at g.C.Cell.ring cells i)) * c.args.table.now.factor ≤ greatest_number) (sym c.strip.ensures)
+    subst (λ cells. nat_abs (g.C.HasNumber.number (cell_at g.C.Cell.ring cells i)) * c.args.table.now.factor ≤ greatest_number) (sym c.cells.ensures)
     (row_room g.C.Cell.ring g.C.HasNumber.number nodes d c.args.table.now.work.now.cells slot c.args.table.now.factor c.parents.ensures.diagram.graph c.requires.live same c.requires.room i (subst (λ n. i < n) c.requires.masses h))
 
 pub returns-then-is_same-clause-puts : goal.returns-then-is_same-clause-puts
@@ -24,5 +24,5 @@ returns-then-is_same-clause-puts g c =
     let slot = c.args.table.now.slot.now in
     let same : nodes_in nodes (holds slot.scope) ≡ parents_of nodes d = sym (c.as_slice.ensures.value ∙ c.in_ok-scope.ensures) ∙ c.is_same.ensures.0 c.if-is_same.true ∙ c.parents.ensures.parents in
     row_masses g.C.Cell.ring g.C.HasNumber.number nodes d c.args.table.now.work.now.cells slot c.args.table.now.factor c.parents.ensures.diagram.graph c.requires.live same c.put_cells.new.masses
-    (subst (λ cells. (i : ℕ) → i < rows_of nodes d → slice_index c.put_cells.new.masses i ≡ nat_abs (g.C.HasNumber.number (cell_at g.C.Cell.ring cells i)) * c.args.table.now.factor) c.strip.ensures
+    (subst (λ cells. (i : ℕ) → i < rows_of nodes d → slice_index c.put_cells.new.masses i ≡ nat_abs (g.C.HasNumber.number (cell_at g.C.Cell.ring cells i)) * c.args.table.now.factor) c.cells.ensures
     (λ i h. c.put_cells.ensures.each i (subst (λ n. i < n) (sym c.requires.masses) h)))
