@@ -1,11 +1,15 @@
-use Rattle.std.proofs.Common.{◌∙◌, ◌<◌, ◌^◌, length, refl, sym, ap, subst, slice_index}
+use Rattle.std.proofs.Common.{◌≡◌, ◌∙◌, ◌++◌, ◌<◌, ◌^◌, ℕ, List, arith, ap, drop, length, refl, slice_index, subst, sym, take}
+use Rattle.std.proofs.lemmas.Grind.{common_steps}
+use Rattle.maid_model.specs.Views.{AnswerView}
 use Rattle.maid_model.specs.Answers.{IsExpectedUtility, pure_profile}
 use Rattle.maid_model.specs.Subgames.{OwnsAll}
 use Rattle.maid_model.specs.Nodes.{decisions_of}
+use Rattle.rule_solver.specs.Masses.{HasGains}
 use Rattle.rule_solver.specs.Rooms.{AreReady}
 use Rattle.size_precheck.specs.Decisions.{ArePlans}
-use Rattle.reach_laws.specs.Updates.{IsReachedAfter}
+use Rattle.reach_laws.specs.Updates.{IsReachedAfter, IsUpdated}
 use Rattle.policy_update.specs.Steps.{EndsAt, IsSettled}
+use Rattle.policy_update.specs.Updated.{AreChoices}
 use Rattle.policy_update.proofs.Owners.{decision_at, owns_like}
 use Rattle.policy_update.proofs.Plans.{first_plan, first_start, plan_pure}
 use Rattle.policy_update.proofs.Rising.{some_decision}
@@ -74,3 +78,20 @@ returns-in-None-clause-rows c =
         expected = subst (IsExpectedUtility d.nodes (10 ^ d.decimals) c.settle.new.profile c.owner.result) (sym c.index.ensures) (c.in_ok-gains.ensures.gains.each c.owner.result c.index.result.now c.owner.ensures.within);
       },
     )
+
+-- the answers written back over the vector's own are the answers
+answers_back : (n : ℕ) (new old : List AnswerView) → length new ≡ n → length old ≡ n → take n (new ++ drop (length new) old) ≡ new
+answers_back n new old e f = search (arith, common_steps)
+
+pub returns-in-Some-clause-ok : goal.returns-in-Some-clause-ok
+returns-in-Some-clause-ok c =
+    let d = c.args.diagram.now in
+    let plan = c.in_ok-settled.ensures.plan in
+    let settled : IsSettled d.nodes c.args.rounds c.settle.new.profile c.in-Some.raised = subst (EndsAt d.nodes c.args.rounds c.settle.new.profile) c.in-Some.is c.in_ok-settled.ensures.settled in
+    let back = sym (answers_back c.in_ok-answers.answers.len c.settle.new.answers c.in_ok-answers.answers.items (c.settle.auto.answers ∙ c.deref_mut.ensures.len) (sym c.in_ok-answers.answers.ok.0)) in
+    let rules : c.settle.new.profile ≡ pure_profile d.nodes _ = plan.rules ∙ ap (pure_profile d.nodes) back in
+    record {
+      choices = subst (AreChoices d.nodes) back plan.choices;
+      result = subst (IsUpdated d.nodes c.in-Some.raised) rules settled.updated;
+      gains = subst (λ p. HasGains d p d.agents c.in_ok-gains.gains.items) rules c.in_ok-gains.ensures.gains;
+    }

@@ -37,3 +37,6 @@ returns c =
       table = λ rows whole. cells_table rows c.args.cells.now c.args.states c.in_ok-total.total c.requires.states c.requires.above whole plain c.requires.whole;
       faultless = λ rows whole. cells_faultless rows c.args.cells.now c.args.states c.in_ok-total.total c.requires.states c.requires.above whole plain;
     }
+
+pub row_at-requires-clause-within : goal.row_at-requires-clause-within
+row_at-requires-clause-within c = has_row c.args.cells.now c.args.states c.requires.states (omega (arith, c.if-cells-states.false))
