@@ -12,7 +12,7 @@ use Rattle.maid_model.specs.Subgames.{OwnsAll}
 use Rattle.maid_model.specs.Values.{IsOptimum, IsDifference, IsValueOfSeen, IsValueOfUnseen}
 use Rattle.arc_laws.specs.Worths.{OneDifference}
 use Rattle.maid_examples.specs.Samples.{rule, whole}
-use Rattle.maid_examples.specs.TwoCoins.{guessing, told, untold, half, HasValues}
+use Rattle.maid_examples.specs.TwoCoins.{guessing, told, untold, half, HasCoinValues}
 use Rattle.maid_examples.proofs.Members.{Among, among_of}
 use Rattle.maid_examples.proofs.Fractions.{reduced_0, reduced_1, reduced_1_2}
 
@@ -149,7 +149,7 @@ module _ (profiles : TestsProfiles) where
       not_seen (inl e) = omega arith
       not_seen (inr m) = m
 
-  pub values : IsDiagram (record { nodes = told; agents = 1; decimals = 0 }) → IsDiagram (record { nodes = newly; agents = 1; decimals = 0 }) → OneDifference → HasValues
+  pub values : IsDiagram (record { nodes = told; agents = 1; decimals = 0 }) → IsDiagram (record { nodes = newly; agents = 1; decimals = 0 }) → OneDifference → HasCoinValues
   values d e one = record {
     told_optimum = told_optimum;
     untold_optimum = untold_optimum;

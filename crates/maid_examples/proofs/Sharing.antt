@@ -17,7 +17,7 @@ use Rattle.maid_model.specs.Subgames.{IsSubgamePerfect}
 use Rattle.maid_model.specs.Answers.{IsAnswer, IsAnswerAt, IsAnswerRow, IsBase, IsFraction, IsReduced, FitsDiagram, FitsAnswer, rows_at, no_row}
 use Rattle.finite_sums.proofs.Members.{one_member}
 use Rattle.maid_examples.specs.Samples.{leader, rule, whole, reached}
-use Rattle.maid_examples.specs.Team.{result, wish, with_result, both_decide, team, team_diagram, plan, answer, report, followers_result, IsSound, AreNone, IsShared, HasReliance, HasAnswer}
+use Rattle.maid_examples.specs.Team.{result, wish, with_result, both_decide, team, team_diagram, plan, answer, report, followers_result, IsSoundSample, AreNone, IsShared, HasReliance, HasAnswer}
 use Rattle.maid_examples.proofs.Members.{Among, among_of}
 use Rattle.maid_examples.proofs.Fractions.{reduced_3, reduced_4, itself, none}
 use Rattle.maid_examples.proofs.Reliance.{decision, seen_on_follower, seen_not_on_leader}
@@ -234,5 +234,5 @@ module _ (relies : HasReliance) (profiles : TestsProfiles) where
     not_halved = not_second (reached 1 3) (reached 1 1) (pos 1) (pos 3);
   }
 
-pub sound : TestsDiagrams → TestsProfiles → IsSound
+pub sound : TestsDiagrams → TestsProfiles → IsSoundSample
 sound diagrams profiles = record { diagram = diagrams team_diagram refl; of_uniform = profiles team uniform refl refl; of_plan = profiles team plan refl refl }

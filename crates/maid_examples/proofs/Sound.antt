@@ -35,7 +35,7 @@ module _ (diagrams : TestsDiagrams) (rules : TestsRules) (profiles : TestsProfil
       rule (suc (suc (suc zero))) d = let k = d.kind in absurd (cc)
       rule (suc (suc (suc (suc v)))) d = let k = d.kind in absurd (cc)
 
-  pub seen_sound : seen.IsSound
+  pub seen_sound : seen.IsSoundSample
   seen_sound = record {
     diagram = diagrams seen.sight_diagram refl;
     of_uniform = profiles seen.sight (uniform_profile seen.sight) refl refl;
@@ -43,7 +43,7 @@ module _ (diagrams : TestsDiagrams) (rules : TestsRules) (profiles : TestsProfil
     of_mixed = seen_mixed;
   }
 
-  pub copied_sound : copy.IsSound
+  pub copied_sound : copy.IsSoundSample
   copied_sound = record {
     diagram = diagrams copy.copied_diagram refl;
     of_uniform = profiles copy.copied (uniform_profile copy.copied) refl refl;

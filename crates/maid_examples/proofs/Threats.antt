@@ -14,7 +14,7 @@ use Rattle.maid_model.specs.Relevance.{ReliesOn}
 use Rattle.maid_laws.specs.Exchange.{IsBestInBases}
 use Rattle.maid_examples.proofs.Reliance.{seen_not_on_leader}
 use Rattle.maid_examples.specs.Samples.{rule}
-use Rattle.maid_examples.specs.EmptyThreat.{moves, moves_diagram, threat, called, IsSound, HoldsAtFirst, FailsAfterLeft, IsNotBest}
+use Rattle.maid_examples.specs.EmptyThreat.{moves, moves_diagram, threat, called, IsSoundSample, HoldsAtFirst, FailsAfterLeft, IsNotBest}
 
 -- ---- what a subgame from left on says
 listing : IsListing moves (0 ∷ 1 ∷ [])
@@ -84,7 +84,7 @@ pub holds : HoldsAtFirst
 holds = record { leader = refl; follower = refl; no_gain = no_gain }
 
 module _ (diagrams : TestsDiagrams) (profiles : TestsProfiles) where
-  pub sound : IsSound
+  pub sound : IsSoundSample
   sound = record { diagram = diagrams moves_diagram refl; of_threat = profiles moves threat refl refl; of_called = profiles moves called refl refl }
 
 -- ---- against the follower's base
@@ -96,7 +96,7 @@ not_best graph b =
     let at = b.best 1 (decides 1 (omega arith) refl) in
     let same = at.is_base.others 0 (decides 0 (omega arith) refl) (not_on_leader graph) in
     let massive : pos 0 <ℤ mass_at moves at.base 1 0 = subst (λ ws. pos 0 <ℤ mass_at moves (rule 0 2 ws ∷ []) 1 0) (sym same.weights) (omega (arith, ints)) in
-    let f : gain_at moves at.base 1 0 0 ≤ℤ gain_at moves at.base 1 1 0 = at.best 0 1 0 (omega arith) (omega arith) refl massive (omega arith) in
+    let f : gain_at moves at.base 1 0 0 ≤ℤ gain_at moves at.base 1 1 0 = at.best 1 0 0 (omega arith) (omega arith) refl massive (omega arith) in
     let g : pos 1 ≤ℤ pos 0 = subst (λ ws. gain_at moves (rule 0 2 ws ∷ []) 1 0 0 ≤ℤ gain_at moves (rule 0 2 ws ∷ []) 1 1 0) same.weights f in
     omega (arith, ints)
 

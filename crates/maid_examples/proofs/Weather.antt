@@ -16,7 +16,7 @@ use Rattle.maid_model.specs.Answers.{IsAnswer, IsAnswerAt, IsAnswerRow, IsBase, 
 use Rattle.maid_laws.specs.Answers.{AnswersAreBest, AnswersAreSubgamePerfect, AnswersAreOptimal, GainsAreOptima}
 use Rattle.maid_laws.specs.Exchange.{IsBestInBases}
 use Rattle.maid_examples.specs.Samples.{whole, reached}
-use Rattle.maid_examples.specs.Trip.{trip, trip_diagram, plan, stay, answer, IsSolved}
+use Rattle.maid_examples.specs.Trip.{trip, trip_diagram, plan, stay, answer, IsTripSolved}
 use Rattle.maid_examples.proofs.Members.{among_of}
 use Rattle.maid_examples.proofs.Fractions.{reduced_5, reduced_7, reduced_13_2, itself, none}
 
@@ -119,7 +119,7 @@ alone (suc (suc (suc v))) k = let e = k.kind in absurd (cc)
 stay_not_best : IsBestInBases trip stay → ⊥
 stay_not_best b =
     let at = b.best 1 outing in
-    let f : pos 21 ≤ℤ negsuc 2 = at.best 1 0 1 (omega arith) (omega arith) refl (omega (arith, ints)) (omega arith) in
+    let f : pos 21 ≤ℤ negsuc 2 = at.best 0 1 1 (omega arith) (omega arith) refl (omega (arith, ints)) (omega arith) in
     omega (arith, ints)
 
 listing : IsListing trip (0 ∷ 1 ∷ [])
@@ -140,7 +140,7 @@ module _ (profiles : TestsProfiles) where
   stay_not_optimal : IsOptimal trip stay 0 → ⊥
   stay_not_optimal o = let f : pos 104 ≤ℤ pos 8 = o.greatest plan is_plan in omega (arith, ints)
 
-  pub solved : IsDiagram trip_diagram → AnswersAreBest → AnswersAreSubgamePerfect → AnswersAreOptimal → GainsAreOptima → IsSolved
+  pub solved : IsDiagram trip_diagram → AnswersAreBest → AnswersAreSubgamePerfect → AnswersAreOptimal → GainsAreOptima → IsTripSolved
   solved d best perfect optimal optima =
       let a = answered (profiles trip uniform refl refl) in
       let o = optima trip_diagram answer d.graph d.tables a 0 (whole (pos 0)) (omega arith) alone in

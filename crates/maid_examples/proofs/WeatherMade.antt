@@ -10,7 +10,7 @@ use Rattle.maid_model.specs.Subgames.{OwnsAll}
 use Rattle.maid_model.specs.Edits.{as_decision}
 use Rattle.maid_model.specs.Values.{IsOptimum}
 use Rattle.maid_examples.specs.Samples.{rule, whole}
-use Rattle.maid_examples.specs.Trip.{trip, HasControl}
+use Rattle.maid_examples.specs.Trip.{trip, HasWeatherControl}
 use Rattle.maid_examples.proofs.Fractions.{reduced_7, reduced_1_2}
 use Rattle.maid_examples.proofs.GuessWorth.{row}
 
@@ -51,7 +51,7 @@ module _ (profiles : TestsProfiles) where
     worth = record { reduced = reduced_7; same = refl };
   }
 
-  pub in_control : IsOptimum trip 0 0 (record { num = pos 13; den = 2 }) → HasControl
+  pub in_control : IsOptimum trip 0 0 (record { num = pos 13; den = 2 }) → HasWeatherControl
   in_control before = record {
     optimum = optimum;
     control = record {

@@ -34,7 +34,7 @@ pub record HasStarts : Type 0 where
       (state : ℕ) → state < 2 → IsSubgameStart copied (0 ∷ 1 ∷ 2 ∷ []) (state ∷ state ∷ []) → ⊥
 
 -- it is a diagram, and the rules are profiles of it
-pub record IsSound : Type 0 where
+pub record IsSoundSample : Type 0 where
   pub diagram : IsDiagram copied_diagram
   pub of_uniform : IsProfile copied (uniform_profile copied)
   pub of_plan : IsProfile copied (plan 2)

@@ -7,7 +7,7 @@ use Rattle.maid_model.specs.Gains.{gain_of}
 use Rattle.maid_model.specs.Relevance.{ReliesOn}
 use Rattle.maid_model.specs.Subgames.{IsListing, IsSubgameStart, IsSubgamePerfect, IsNoBetter, DiffersOnlyFor, gain_from}
 use Rattle.maid_laws.specs.Exchange.{IsBestInBases}
-use Rattle.maid_examples.specs.Samples.{leader, follower, pay, rule, HasRow}
+use Rattle.maid_examples.specs.Samples.{leader, follower, pay, rule, HasRowSums}
 
 -- The leader moves left or right, the follower in sight of it. Left is worth 2 to the leader where the follower goes
 -- left too and 0 where not, right 3 and 1; the follower gets 1 where it goes the leader's way.
@@ -32,7 +32,7 @@ abbrev pub called : List RuleView
 called = rule 0 1 (0 ∷ 1 ∷ []) ∷ rule 1 1 (1 ∷ 0 ∷ 0 ∷ 1 ∷ []) ∷ []
 
 -- it is a diagram, and the rules are profiles of it
-pub record IsSound : Type 0 where
+pub record IsSoundSample : Type 0 where
   pub diagram : IsDiagram moves_diagram
   pub of_threat : IsProfile moves threat
   pub of_called : IsProfile moves called
@@ -59,5 +59,5 @@ pub record FailsAfterLeft : Type 0 where
 -- 0 and the other 1. The threat is not best in its bases.
 pub record IsNotBest : Type 0 where
   pub not_on_leader : ReliesOn moves 1 0 → ⊥
-  pub left : HasRow moves (uniform_profile moves) 1 0 (pos 1) (pos 0) (pos 1)
+  pub left : HasRowSums moves (uniform_profile moves) 1 0 (pos 1) (pos 0) (pos 1)
   pub not_best : IsBestInBases moves threat → ⊥

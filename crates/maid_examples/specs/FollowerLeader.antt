@@ -5,7 +5,7 @@ use Rattle.maid_model.specs.Diagrams.{IsDiagram}
 use Rattle.maid_model.specs.Profiles.{IsProfile, uniform_profile}
 use Rattle.maid_model.specs.Relevance.{ReliesOn}
 use Rattle.maid_model.specs.Subgames.{IsListing, IsSubgameStart, gain_from, mass_from}
-use Rattle.maid_examples.specs.Samples.{leader, follower, leader_pay, follower_pay, rule, plan, HasRow}
+use Rattle.maid_examples.specs.Samples.{leader, follower, leader_pay, follower_pay, rule, plan, HasRowSums}
 
 -- the two decide, and the utilities behind them are the leader's and the follower's
 abbrev pub sight : List NodeView
@@ -22,9 +22,9 @@ mixed much little = rule 0 (much + little) (much ∷ little ∷ []) ∷ rule 1 2
 -- whatever weights the leader has, the follower's gains and mass in a row are the weight of that row times the same
 -- numbers
 pub record HasSumsInProportion : Type 0 where
-  pub much : (much little : ℕ) → HasRow sight (mixed much little) 1 0 (negsuc 1 *ℤ pos much)
+  pub much : (much little : ℕ) → HasRowSums sight (mixed much little) 1 0 (negsuc 1 *ℤ pos much)
       (pos much) (pos much)
-  pub little : (much little : ℕ) → HasRow sight (mixed much little) 1 1 (pos 5 *ℤ pos little)
+  pub little : (much little : ℕ) → HasRowSums sight (mixed much little) 1 1 (pos 5 *ℤ pos little)
       (pos 0) (pos little)
 
 -- The leader relies on the follower, by the walk new -> 1 -> 2. The follower doesn't rely on the leader: given 0 and
@@ -44,7 +44,7 @@ pub record HasStarts : Type 0 where
   pub mass_from_little : mass_from sight (0 ∷ 1 ∷ []) (1 ∷ []) (plan 1) ≡ 1
 
 -- it is a diagram, and the rules are profiles of it
-pub record IsSound : Type 0 where
+pub record IsSoundSample : Type 0 where
   pub diagram : IsDiagram sight_diagram
   pub of_uniform : IsProfile sight (uniform_profile sight)
   pub of_plan : IsProfile sight (plan 1)

@@ -5,7 +5,7 @@ use Rattle.maid_model.specs.Views.{NodeView, RuleView, DiagramView}
 use Rattle.maid_model.specs.Diagrams.{IsDiagram}
 use Rattle.maid_model.specs.Profiles.{IsProfile, uniform_profile}
 use Rattle.maid_model.specs.Relevance.{IsLive, ReliesOn}
-use Rattle.maid_examples.specs.Samples.{leader, copy, follower, leader_pay, follower_pay, pay, rule, HasRow, HasGains}
+use Rattle.maid_examples.specs.Samples.{leader, copy, follower, leader_pay, follower_pay, pay, rule, HasRowSums, HasTwoGains}
 
 -- node 1 with one state
 abbrev pub narrow : NodeView
@@ -52,20 +52,20 @@ asks_little = rule 0 1 (0 ∷ 1 ∷ []) ∷ rule 2 2 (1 ∷ 1 ∷ []) ∷ []
 --   uniform: take -2 + 5 = 3, leave 1 + 0 = 1, mass 1 + 1
 --   much asked: take -2, leave 1, mass 1; little asked: take 5, leave 0, mass 1: the best state is another
 pub record HasJoinedSums : Type 0 where
-  pub uniform : HasGains joined (uniform_profile joined) (pos 7) (pos 4) 4
-  pub row : HasRow joined (uniform_profile joined) 2 0 (pos 3) (pos 1) (pos 2)
-  pub much_asked : HasRow joined asks_much 2 0 (negsuc 1) (pos 1) (pos 1)
-  pub little_asked : HasRow joined asks_little 2 0 (pos 5) (pos 0) (pos 1)
+  pub uniform : HasTwoGains joined (uniform_profile joined) (pos 7) (pos 4) 4
+  pub row : HasRowSums joined (uniform_profile joined) 2 0 (pos 3) (pos 1) (pos 2)
+  pub much_asked : HasRowSums joined asks_much 2 0 (negsuc 1) (pos 1) (pos 1)
+  pub little_asked : HasRowSums joined asks_little 2 0 (pos 5) (pos 0) (pos 1)
 
 -- With one state: four worlds, and the mass is 2 * 1 * 2.
 --   uniform: leader 5 - 1 + 3 + 0 = 7, follower 3 + 1 + 3 + 1 = 8
 --   uniform: take 3 + 3 = 6, leave 1 + 1 = 2, mass 1 + 1
 --   much or little asked: take 3, leave 1, mass 1: in the same proportion
 pub record HasPartedSums : Type 0 where
-  pub uniform : HasGains parted (uniform_profile parted) (pos 7) (pos 8) 4
-  pub row : HasRow parted (uniform_profile parted) 2 0 (pos 6) (pos 2) (pos 2)
-  pub much_asked : HasRow parted asks_much 2 0 (pos 3) (pos 1) (pos 1)
-  pub little_asked : HasRow parted asks_little 2 0 (pos 3) (pos 1) (pos 1)
+  pub uniform : HasTwoGains parted (uniform_profile parted) (pos 7) (pos 8) 4
+  pub row : HasRowSums parted (uniform_profile parted) 2 0 (pos 6) (pos 2) (pos 2)
+  pub much_asked : HasRowSums parted asks_much 2 0 (pos 3) (pos 1) (pos 1)
+  pub little_asked : HasRowSums parted asks_little 2 0 (pos 3) (pos 1) (pos 1)
 
 -- The leader relies on the follower in both, by the walk new -> 2 -> 3. The follower relies on the leader by the walk
 -- new -> 0 -> 1 -> 4 alone, which is none where node 1 has one state and so isn't live.

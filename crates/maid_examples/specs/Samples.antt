@@ -89,14 +89,14 @@ abbrev pub never : ℕ → Row
 never choice = record { choice = choice; worth = None }
 
 -- against the profile, what the first and the second state of d gain in the row, and the row's mass
-pub record HasRow
+pub record HasRowSums
     (nodes : List NodeView) (p : List RuleView) (d row : ℕ) (first second mass : ℤ) : Type 0 where
   pub of_first : gain_at nodes p d 0 row ≡ first
   pub of_second : gain_at nodes p d 1 row ≡ second
   pub of_row : mass_at nodes p d row ≡ mass
 
 -- what the profile gives to the leader and to the follower, and its mass
-pub record HasGains
+pub record HasTwoGains
     (nodes : List NodeView) (p : List RuleView) (leader follower : ℤ) (product : ℕ) : Type 0 where
   pub to_leader : gain_of nodes p 0 ≡ leader
   pub to_follower : gain_of nodes p 1 ≡ follower
@@ -118,11 +118,11 @@ plan follower = rule 0 1 (0 ∷ 1 ∷ []) ∷ rule follower 1 (0 ∷ 1 ∷ 1 ∷
 -- At the leader two worlds are left for each state, each with the follower's weight.
 --   uniform: much 5 - 1 = 4, little 3 + 0 = 3, mass 1 + 1; under the plan: much -1, little 3, mass 0 + 1
 pub record HasSums (nodes : List NodeView) (follower : ℕ) : Type 0 where
-  pub uniform : HasGains nodes (uniform_profile nodes) (pos 7) (pos 4) 4
-  pub planned : HasGains nodes (plan follower) (pos 3) (pos 5) 1
-  pub much : HasRow nodes (uniform_profile nodes) follower 0 (negsuc 1) (pos 1) (pos 1)
-  pub little : HasRow nodes (uniform_profile nodes) follower 1 (pos 5) (pos 0) (pos 1)
-  pub much_in_plan : HasRow nodes (plan follower) follower 0 (pos 0) (pos 0) (pos 0)
-  pub little_in_plan : HasRow nodes (plan follower) follower 1 (pos 5) (pos 0) (pos 1)
-  pub asked : HasRow nodes (uniform_profile nodes) 0 0 (pos 4) (pos 3) (pos 2)
-  pub asked_in_plan : HasRow nodes (plan follower) 0 0 (negsuc 0) (pos 3) (pos 1)
+  pub uniform : HasTwoGains nodes (uniform_profile nodes) (pos 7) (pos 4) 4
+  pub planned : HasTwoGains nodes (plan follower) (pos 3) (pos 5) 1
+  pub much : HasRowSums nodes (uniform_profile nodes) follower 0 (negsuc 1) (pos 1) (pos 1)
+  pub little : HasRowSums nodes (uniform_profile nodes) follower 1 (pos 5) (pos 0) (pos 1)
+  pub much_in_plan : HasRowSums nodes (plan follower) follower 0 (pos 0) (pos 0) (pos 0)
+  pub little_in_plan : HasRowSums nodes (plan follower) follower 1 (pos 5) (pos 0) (pos 1)
+  pub asked : HasRowSums nodes (uniform_profile nodes) 0 0 (pos 4) (pos 3) (pos 2)
+  pub asked_in_plan : HasRowSums nodes (plan follower) 0 0 (negsuc 0) (pos 3) (pos 1)

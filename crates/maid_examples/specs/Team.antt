@@ -10,7 +10,7 @@ use Rattle.maid_model.specs.Profiles.{IsProfile, uniform_profile}
 use Rattle.maid_model.specs.Relevance.{IsGoal, ReliesOn}
 use Rattle.maid_model.specs.Answers.{IsAnswer}
 use Rattle.maid_model.specs.Subgames.{IsSubgamePerfect}
-use Rattle.maid_examples.specs.Samples.{leader, follower, pay, rule, whole, reached, HasGains, HasRow}
+use Rattle.maid_examples.specs.Samples.{leader, follower, pay, rule, whole, reached, HasTwoGains, HasRowSums}
 
 -- what these agents get: 3 where both choices are the first state, 2 where both are the second, and else 0
 abbrev pub result : ℕ → List ℕ → NodeView
@@ -45,7 +45,7 @@ abbrev pub plan : List RuleView
 plan = rule 0 1 (1 ∷ 0 ∷ []) ∷ rule 1 1 (1 ∷ 0 ∷ 0 ∷ 1 ∷ []) ∷ []
 
 -- it is a diagram, and the rules are profiles of it
-pub record IsSound : Type 0 where
+pub record IsSoundSample : Type 0 where
   pub diagram : IsDiagram team_diagram
   pub of_uniform : IsProfile team (uniform_profile team)
   pub of_plan : IsProfile team plan
@@ -79,11 +79,11 @@ pub record IsShared : Type 0 where
 -- At the follower, in sight of the first state, 3 and the wish's 2, in sight of the second 0 and 2 + 2, of mass 1
 -- each. At the leader, against the plan, 3 and 2.
 pub record HasSums : Type 0 where
-  pub uniform : HasGains team (uniform_profile team) (pos 5) (pos 9) 4
-  pub planned : HasGains team plan (pos 3) (pos 3) 1
-  pub first : HasRow team (uniform_profile team) 1 0 (pos 3) (pos 2) (pos 1)
-  pub second : HasRow team (uniform_profile team) 1 1 (pos 0) (pos 4) (pos 1)
-  pub leads : HasRow team plan 0 0 (pos 3) (pos 2) (pos 1)
+  pub uniform : HasTwoGains team (uniform_profile team) (pos 5) (pos 9) 4
+  pub planned : HasTwoGains team plan (pos 3) (pos 3) 1
+  pub first : HasRowSums team (uniform_profile team) 1 0 (pos 3) (pos 2) (pos 1)
+  pub second : HasRowSums team (uniform_profile team) 1 1 (pos 0) (pos 4) (pos 1)
+  pub leads : HasRowSums team plan 0 0 (pos 3) (pos 2) (pos 1)
 
 -- the leader relies on the follower, who sees it and so relies on nobody
 pub record HasReliance : Type 0 where

@@ -16,7 +16,7 @@ abbrev pub greatest_factor : DiagramView → ℕ
 greatest_factor d = max (10 ^ d.decimals) (greatest_utility d.nodes)
 
 -- the rules are a profile, and the sums against it keep the weight bound
-pub record HasRoom (t : TrialView) : Type 0 where
+pub record HasRoomForTrial (t : TrialView) : Type 0 where
   pub profile : IsProfile t.diagram.nodes t.profile
   pub whole : mass t.diagram.nodes t.profile * greatest_factor t.diagram ≤ greatest_number
   pub base : (v : ℕ) → IsDecision t.diagram.nodes v

@@ -13,7 +13,7 @@ use Rattle.maid_model.specs.Bounds.{bound_product}
 use Rattle.maid_laws.specs.Exchange.{IsBestInBases}
 use Rattle.maid_model.specs.Parts.{place_in, part_of, rules_in, mass_left_out}
 use Rattle.maid_model.specs.Scopes.{scope_of, scope_for, scope_product, scope_product_for, scope_bound}
-use Rattle.maid_examples.specs.Samples.{decision, pay, rule, whole, reached, HasRow}
+use Rattle.maid_examples.specs.Samples.{decision, pay, rule, whole, reached, HasRowSums}
 
 -- node 0: one part rain, three parts sun
 abbrev pub weather : NodeView
@@ -47,7 +47,7 @@ abbrev pub stay : List RuleView
 stay = rule 1 1 (1 ∷ 0 ∷ 1 ∷ 0 ∷ []) ∷ []
 
 -- it is a diagram, and the rules are profiles of it
-pub record IsSound : Type 0 where
+pub record IsSoundSample : Type 0 where
   pub diagram : IsDiagram trip_diagram
   pub of_uniform : IsProfile trip (uniform_profile trip)
   pub of_plan : IsProfile trip plan
@@ -62,8 +62,8 @@ pub record HasSums : Type 0 where
   pub uniform_mass : mass trip (uniform_profile trip) ≡ 8
   pub stay_gain : gain_of trip stay 0 ≡ pos 2
   pub stay_mass : mass trip stay ≡ 4
-  pub rain : HasRow trip plan 1 0 (pos 5) (pos 0) (pos 1)
-  pub sun : HasRow trip plan 1 1 (negsuc 2) (pos 21) (pos 3)
+  pub rain : HasRowSums trip plan 1 0 (pos 5) (pos 0) (pos 1)
+  pub sun : HasRowSums trip plan 1 1 (negsuc 2) (pos 21) (pos 3)
 
 -- a subgame starts once the sun is seen to shine, and the plan is worth 7 from there, of mass 1
 pub record HasASubgame : Type 0 where
@@ -82,7 +82,7 @@ answer = record {
 
 -- The plan is the answer, and so best in its bases, subgame-perfect and optimal: the optimum is 13/2. To stay is none
 -- of these.
-pub record IsSolved : Type 0 where
+pub record IsTripSolved : Type 0 where
   pub answered : IsAnswer trip_diagram answer
   pub optimum : IsOptimum trip 0 0 (record { num = pos 13; den = 2 })
   pub best : IsBestInBases trip plan
@@ -93,7 +93,7 @@ pub record IsSolved : Type 0 where
   pub stay_not_optimal : IsOptimal trip stay 0 → ⊥
 
 -- Whoever makes the weather makes it sunny and goes, worth 7: control of it is worth 7 - 13/2 = 1/2.
-pub record HasControl : Type 0 where
+pub record HasWeatherControl : Type 0 where
   pub optimum : IsOptimum (as_decision trip 0 0) 0 0 (whole (pos 7))
   pub control : IsValueOfControl trip 0 [] 0 0 (record { num = pos 1; den = 2 })
 

@@ -93,7 +93,7 @@ half = record { num = pos 1; den = 2 }
 -- whatever the rules: the optimum is 1/2.
 -- So coin 0 is worth 1/2 beside the news whether the coins are alike, and nothing alone; and so is the news worth 1/2
 -- beside coin 0.
-pub record HasValues : Type 0 where
+pub record HasCoinValues : Type 0 where
   pub told_optimum : IsOptimum told 0 0 (whole (pos 1))
   pub untold_optimum : IsOptimum untold 0 0 half
   pub coin_beside_news : IsValueOfSeen told 0 [] 0 0 3 half

@@ -1,6 +1,6 @@
 //! An outing whose weather is seen, and a coin beside it.
 
-ghost use Rattle.maid_examples.specs.Trip.{IsSound, HasSums, HasASubgame, IsSolved, HasControl, HasAPart};
+ghost use Rattle.maid_examples.specs.Trip.{IsSoundSample, HasSums, HasASubgame, IsTripSolved, HasWeatherControl, HasAPart};
 
 use maid_laws::{
     answers_are_best, answers_are_optimal, answers_are_subgame_perfect, gains_are_optima,
@@ -11,11 +11,11 @@ use maid_model::literals_are_tested;
 /// weather is worth; and a coin beside it that is no
 /// part of it.
 pub fn a_trip()
-    ensures sound { IsSound }
+    ensures sound { IsSoundSample }
     ensures sums { HasSums }
     ensures subgame { HasASubgame }
-    ensures solved { IsSolved }
-    ensures control { HasControl }
+    ensures solved { IsTripSolved }
+    ensures control { HasWeatherControl }
     ensures part { HasAPart }
 {
     literals_are_tested();

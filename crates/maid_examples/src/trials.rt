@@ -8,7 +8,7 @@ ghost use Rattle.maid_examples.specs.CopyAnswered.{trace_diagram};
 ghost use Rattle.maid_examples.specs.EmptyThreat.{moves_diagram, threat};
 ghost use Rattle.maid_examples.specs.Pennies.{pennies_diagram};
 ghost use Rattle.maid_examples.specs.Team.{team_diagram, plan as team_rules};
-ghost use Rattle.maid_examples.specs.Trial.{HasRoom};
+ghost use Rattle.maid_examples.specs.Trial.{HasRoomForTrial};
 ghost use Rattle.maid_examples.specs.Trip.{trip_diagram, plan as planned};
 ghost use Rattle.maid_examples.specs.NodeBetween.{joined_diagram, parted_diagram, asks_much, asks_little};
 
@@ -222,18 +222,18 @@ pub(crate) struct Trial {
 }
 
 impl Model for Trial {
-    ghost use Rattle.maid_examples.specs.Trial.{TrialView, HasRoom};
+    ghost use Rattle.maid_examples.specs.Trial.{TrialView, HasRoomForTrial};
 
     ghost Value = { TrialView };
 
     ghost view = { λ t. record { diagram = t.diagram; profile = t.profile } };
 
-    ghost invariant = { λ t. HasRoom (record { diagram = t.diagram; profile = t.profile }) };
+    ghost invariant = { λ t. HasRoomForTrial (record { diagram = t.diagram; profile = t.profile }) };
 }
 
 impl Trial {
     fn new(diagram: Diagram, profile: Profile) -> Trial
-        requires { HasRoom (record { diagram = diagram; profile = profile }) }
+        requires { HasRoomForTrial (record { diagram = diagram; profile = profile }) }
     {
         Trial { diagram, profile }
     }

@@ -15,7 +15,7 @@ use Rattle.maid_laws.proofs.Members.{among_of, contains_of}
 use Rattle.ring_sums.proofs.Each.{Each}
 use Rattle.factor_core.specs.declared.slots.Slot.{Slot}
 use Rattle.factor_core.specs.Slots.{WorkspaceView, IsLiveSlot, StaysLive, cells_over, tables_of, AppendsTable}
-use Rattle.sum_tests.specs.Trials.{two_coins, IsSmall, Grows}
+use Rattle.sum_tests.specs.Trials.{two_coins, IsSmallSlot, GrowsByFour}
 
 -- no table over the two has more than four cells
 pub four_cells : (h : ℕ → Bool) → cells_over two_coins h ≤ 4
@@ -27,7 +27,7 @@ four_cells h = go (h 0) (h 1)
     go false true = omega arith
     go false false = omega arith
 
-pub grows_of : {C : Type 0} (r : Ring C) (before after : WorkspaceView C) (slot : Slot) (t : Table C) (most : ℕ) → AppendsTable r two_coins before after slot t → ((w : World) → InRange (states_of two_coins) w → r.size (t.cell w) ≤ most) → Grows r before after slot most
+pub grows_of : {C : Type 0} (r : Ring C) (before after : WorkspaceView C) (slot : Slot) (t : Table C) (most : ℕ) → AppendsTable r two_coins before after slot t → ((w : World) → InRange (states_of two_coins) w → r.size (t.cell w) ≤ most) → GrowsByFour r before after slot most
 grows_of r before after slot t most a h = record {
   small = record { live = a.live; sizes = λ w i. subst (λ c. r.size c ≤ most) (sym (a.table.cell w i)) (h w i) };
   spare = omega (arith, a.appends.less, a.live.size, four_cells (holds slot.scope));
@@ -103,12 +103,12 @@ turned_nodes h e f known v = ((λ m. there v (among_of v (1 ∷ 0 ∷ []) m)), (
     here (suc (suc v)) l = absurd (omega arith)
 
 -- the tables of small slots
-pub below_of_slots : {C : Type 0} {r : Ring C} (laws : IsRing r) (sized : IsSize r r.size) (b : ℕ) (some : 1 ≤ b) (cells : List C) (slots : List Slot) → Each (λ s. IsSmall r cells s b) slots → Each (Below laws sized b some) (tables_of r two_coins cells slots)
+pub below_of_slots : {C : Type 0} {r : Ring C} (laws : IsRing r) (sized : IsSize r r.size) (b : ℕ) (some : 1 ≤ b) (cells : List C) (slots : List Slot) → Each (λ s. IsSmallSlot r cells s b) slots → Each (Below laws sized b some) (tables_of r two_coins cells slots)
 below_of_slots laws sized b some cells [] e = tt
 below_of_slots laws sized b some cells (s ∷ ss) e = (e.0.sizes, below_of_slots laws sized b some cells ss e.1)
 
 -- small for one bound, small for a greater
-pub wider : {C : Type 0} (r : Ring C) (cells : List C) (s : Slot) (a b : ℕ) → a ≤ b → IsSmall r cells s a → IsSmall r cells s b
+pub wider : {C : Type 0} (r : Ring C) (cells : List C) (s : Slot) (a b : ℕ) → a ≤ b → IsSmallSlot r cells s a → IsSmallSlot r cells s b
 wider r cells s a b l m = record { live = m.live; sizes = λ w i. le_trans (m.sizes w i) l }
 
 pub all_two : {X : Type 0} (P : X → Type 0) (a b : X) → P a → P b → All P (a ∷ b ∷ [])
@@ -116,7 +116,7 @@ all_two P a b h k zero d l = h
 all_two P a b h k (suc zero) d l = k
 all_two P a b h k (suc (suc i)) d l = absurd (omega arith)
 
-pub stays_small : {C : Type 0} (r : Ring C) (before after : List C) → ((s : Slot) → IsLiveSlot two_coins before s → StaysLive r two_coins before after s) → (s : Slot) (b : ℕ) → IsSmall r before s b → IsSmall r after s b
+pub stays_small : {C : Type 0} (r : Ring C) (before after : List C) → ((s : Slot) → IsLiveSlot two_coins before s → StaysLive r two_coins before after s) → (s : Slot) (b : ℕ) → IsSmallSlot r before s b → IsSmallSlot r after s b
 stays_small r before after h s b m =
     let k = h s m.live in
     record { live = k.live; sizes = λ w i. subst (λ t. r.size (t.cell w) ≤ b) (sym k.table) (m.sizes w i) }

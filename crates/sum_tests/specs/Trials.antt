@@ -21,7 +21,7 @@ abbrev pub coins_diagram : DiagramView
 coins_diagram = diagram_of two_coins 1 0
 
 -- a live slot of cells of at most that size
-pub record IsSmall {C : Type 0}
+pub record IsSmallSlot {C : Type 0}
     (r : Ring C) (cells : List C) (slot : Slot) (most : ℕ) : Type 0 where
   pub live : IsLiveSlot two_coins cells slot
   pub sizes : (w : World) → InRange (states_of two_coins) w
@@ -30,11 +30,11 @@ pub record IsSmall {C : Type 0}
 -- slots that were small still are
 abbrev pub AllStaySmall : {C : Type 0} → Ring C → WorkspaceView C → WorkspaceView C → Type 0
 AllStaySmall r before after =
-    (s : Slot) (b : ℕ) → IsSmall r before.cells s b → IsSmall r after.cells s b
+    (s : Slot) (b : ℕ) → IsSmallSlot r before.cells s b → IsSmallSlot r after.cells s b
 
 -- a table of such cells was made, four at most, and slots that were small still are
-pub record Grows {C : Type 0}
+pub record GrowsByFour {C : Type 0}
     (r : Ring C) (before after : WorkspaceView C) (slot : Slot) (most : ℕ) : Type 0 where
-  pub small : IsSmall r after.cells slot most
+  pub small : IsSmallSlot r after.cells slot most
   pub spare : before.spare ≤ after.spare + 4
   pub stays : AllStaySmall r before after

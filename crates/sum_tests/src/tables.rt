@@ -4,7 +4,7 @@ ghost use Rattle.std.specs.Prelude.{◌≡◌, ◌+◌, ◌*◌, ◌<◌, ◌≤
 ghost use Rattle.maid_model.specs.Nodes.{counts_of};
 ghost use Rattle.node_sets.specs.Sets.{IsIn};
 ghost use Rattle.factor_core.specs.Scopes.{united};
-ghost use Rattle.sum_tests.specs.Trials.{coins_diagram, IsSmall, Grows, AllStaySmall};
+ghost use Rattle.sum_tests.specs.Trials.{coins_diagram, IsSmallSlot, GrowsByFour, AllStaySmall};
 
 use cell_rings::{Both, Can, Cell, Gain, Mass};
 use factor_core::{Slot, StateCounts, Strip, Workspace};
@@ -35,7 +35,7 @@ fn first<C: Cell>(
     requires node { node < 2 }
     requires most { 16777216 ≤ C.ring.most }
     requires room { 4 ≤ work.old.spare }
-    ensures grows { Grows C.ring work.old work.new result 49 }
+    ensures grows { GrowsByFour C.ring work.old work.new result 49 }
     ensures own { IsIn result.scope node }
 {
     work.table(diagram, counts, profile, node)
@@ -44,10 +44,10 @@ fn first<C: Cell>(
 fn multiply<C: Cell>(work: &mut Workspace<C>, diagram: &Diagram, slots: &[Slot]) -> Slot
     requires diagram { diagram.now ≡ coins_diagram }
     requires two { length slots.now ≤ 2 }
-    requires small { All (λ s. IsSmall C.ring work.old.cells s 49) slots.now }
+    requires small { All (λ s. IsSmallSlot C.ring work.old.cells s 49) slots.now }
     requires most { 16777216 ≤ C.ring.most }
     requires room { 4 ≤ work.old.spare }
-    ensures grows { Grows C.ring work.old work.new result 2401 }
+    ensures grows { GrowsByFour C.ring work.old work.new result 2401 }
     ensures own { (v : ℕ) → united slots.now v ≡ true → IsIn result.scope v }
 {
     work.product(diagram, &StateCounts::of(diagram), slots)
@@ -57,24 +57,24 @@ fn add_up<C: Cell>(work: &mut Workspace<C>, diagram: &Diagram, slots: &[Slot], n
     requires diagram { diagram.now ≡ coins_diagram }
     requires two { length slots.now ≤ 2 }
     requires some { 0 < length slots.now }
-    requires small { All (λ s. IsSmall C.ring work.old.cells s 2401) slots.now }
+    requires small { All (λ s. IsSmallSlot C.ring work.old.cells s 2401) slots.now }
     requires hold { All (λ s. IsIn s.scope node) slots.now }
     requires node { node < 2 }
     requires most { 16777216 ≤ C.ring.most }
     requires room { 4 ≤ work.old.spare }
-    ensures { Grows C.ring work.old work.new result 11529602 }
+    ensures { GrowsByFour C.ring work.old work.new result 11529602 }
 {
     work.join_out(diagram, &StateCounts::of(diagram), slots, node)
 }
 
 fn sum_one<C: Cell>(work: &mut Workspace<C>, diagram: &Diagram, slot: &Slot, node: usize) -> Slot
     requires diagram { diagram.now ≡ coins_diagram }
-    requires small { IsSmall C.ring work.old.cells slot.now 2401 }
+    requires small { IsSmallSlot C.ring work.old.cells slot.now 2401 }
     requires hold { IsIn slot.now.scope node }
     requires node { node < 2 }
     requires most { 16777216 ≤ C.ring.most }
     requires room { 4 ≤ work.old.spare }
-    ensures { Grows C.ring work.old work.new result 11529602 }
+    ensures { GrowsByFour C.ring work.old work.new result 11529602 }
 {
     work.sum_out(diagram, &StateCounts::of(diagram), slot, node)
 }
@@ -87,12 +87,12 @@ fn keep_state<C: Cell>(
     state: usize,
 ) -> Slot
     requires diagram { diagram.now ≡ coins_diagram }
-    requires small { IsSmall C.ring work.old.cells slot.now 2401 }
+    requires small { IsSmallSlot C.ring work.old.cells slot.now 2401 }
     requires hold { IsIn slot.now.scope node }
     requires node { node < 2 }
     requires state { state < 2 }
     requires room { 4 ≤ work.old.spare }
-    ensures { Grows C.ring work.old work.new result 2401 }
+    ensures { GrowsByFour C.ring work.old work.new result 2401 }
 {
     work.restrict(diagram, slot, node, state)
 }
@@ -100,7 +100,7 @@ fn keep_state<C: Cell>(
 /// The slot's cells with the second coin slowest.
 fn turn<C: Cell>(work: &mut Workspace<C>, diagram: &Diagram, slot: &Slot) -> Slot
     requires diagram { diagram.now ≡ coins_diagram }
-    requires small { IsSmall C.ring work.old.cells slot.now 2401 }
+    requires small { IsSmallSlot C.ring work.old.cells slot.now 2401 }
     requires first { IsIn slot.now.scope 0 }
     requires second { IsIn slot.now.scope 1 }
     requires room { 4 ≤ work.old.spare }
@@ -119,7 +119,7 @@ fn turn<C: Cell>(work: &mut Workspace<C>, diagram: &Diagram, slot: &Slot) -> Slo
 /// The slot's cell at the second state of the first coin and the first of the second.
 fn look<C: Cell>(work: &Workspace<C>, diagram: &Diagram, slot: &Slot) -> C
     requires diagram { diagram.now ≡ coins_diagram }
-    requires small { IsSmall C.ring work.now.cells slot.now 2401 }
+    requires small { IsSmallSlot C.ring work.now.cells slot.now 2401 }
     requires first { IsIn slot.now.scope 0 }
     requires second { IsIn slot.now.scope 1 }
 {

@@ -7,8 +7,8 @@ use Rattle.maid_model.specs.Names.{NamesView}
 use Rattle.sample_diagrams.specs.Nodes.{decision_node, utility_node}
 
 -- the list has copies of these words
-abbrev pub AreWords : List (Bor (List ℕ)) → Vec (Vec ℕ) → Type 0
-AreWords words list = map (λ word. word.items) list.items ≡ map (λ word. word.now) words
+abbrev pub AreCopies : List (Bor (List ℕ)) → Vec (Vec ℕ) → Type 0
+AreCopies words list = map (λ word. word.items) list.items ≡ map (λ word. word.now) words
 
 -- both states of the decision are worth 5
 abbrev pub tie_diagram : DiagramView

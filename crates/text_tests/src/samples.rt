@@ -1,7 +1,7 @@
 //! A diagram that reports and lines are of, and its names.
 
 ghost use Rattle.std.specs.Prelude.{◌≡◌, IfOk};
-ghost use Rattle.text_tests.specs.Samples.{AreWords, tie_diagram, tie_names};
+ghost use Rattle.text_tests.specs.Samples.{AreCopies, tie_diagram, tie_names};
 
 use maid_model::{Diagram, Names};
 use sample_diagrams::{decision, sample_diagram, utility};
@@ -17,7 +17,7 @@ pub(crate) fn tie_diagram(alloc: Global) -> Result<Diagram, AllocError>
 
 /// Copies of the words.
 pub(crate) fn list_words(alloc: Global, words: &[&[u8]]) -> Result<Vec<Vec<u8>>, AllocError>
-    ensures { IfOk result (AreWords words.now) }
+    ensures { IfOk result (AreCopies words.now) }
 {
     let mut list = Vec::new(alloc);
     for word in words {
