@@ -1,6 +1,6 @@
 //! Lines of what decisions choose.
 
-ghost use Rattle.std.specs.Prelude.{◌≡◌, ◌<◌, ◌++◌, All, IfOk};
+ghost use Rattle.std.specs.Prelude.{◌≡◌, ◌<◌, All, IfOk};
 ghost use Rattle.maid_model.specs.Names.{NamesFit};
 ghost use Rattle.maid_model.specs.Nodes.{IsDecision, rows_of, states_of};
 ghost use Rattle.app_lines.specs.Choices.{HasChoices, TellsChoices};

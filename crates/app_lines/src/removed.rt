@@ -1,6 +1,6 @@
 //! Lines of arcs that were removed.
 
-ghost use Rattle.std.specs.Prelude.{◌≡◌, ◌<◌, ◌++◌, IfOk, length};
+ghost use Rattle.std.specs.Prelude.{◌≡◌, ◌<◌, IfOk, length};
 ghost use Rattle.app_lines.specs.Removed.{AreNamed, removed_line, removed_lines};
 ghost use Rattle.line_pieces.specs.Pushed.{PushAppends};
 

@@ -1,7 +1,6 @@
 //! The steps of a search: sweeps over all arcs until no mark is added.
 
-ghost use Rattle.std.specs.Prelude.{◌≡◌, ℕ, ◌+◌, ◌<◌, ◌⊎◌, ◌↔◌, length, Contains, IsTrue, IsFalse};
-ghost use Rattle.maid_model.specs.Graph.{Arc};
+ghost use Rattle.std.specs.Prelude.{◌≡◌, ℕ, ◌+◌, ◌<◌, ◌↔◌, length, IsTrue, IsFalse};
 ghost use Rattle.maid_model.specs.Relevance.{IsLive};
 ghost use Rattle.node_sets.specs.declared.sets.TheConstants.{MOST_NODES};
 ghost use Rattle.node_sets.specs.Sets.{Adds, room};

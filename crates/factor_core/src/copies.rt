@@ -1,6 +1,6 @@
 //! A walk that copies cells in another order.
 
-ghost use Rattle.std.specs.Prelude.{◌≡◌, ◌+◌, ◌-◌, ◌≤◌, length, take, ◌++◌, [], ◌∷◌};
+ghost use Rattle.std.specs.Prelude.{◌≡◌, ◌+◌, ◌-◌, ◌≤◌, length, take, [], ◌∷◌};
 ghost use Rattle.factor_core.specs.Copies.{count_of_steps, CanCopy, HasCopied, CanCopyAllOf, CanCopyOf, Gathers, GathersTwo};
 
 use crate::sources::{Source, Stored};

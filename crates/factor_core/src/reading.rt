@@ -1,6 +1,6 @@
 //! The cell of a slot at states of its nodes.
 
-ghost use Rattle.std.specs.Prelude.{◌≡◌, ◌+◌, ◌*◌, ◌^◌, ◌<◌, ◌≤◌, ℕ, IsTrue, if◌then◌else◌, slice_index, length, take};
+ghost use Rattle.std.specs.Prelude.{◌≡◌, ◌+◌, ◌*◌, ◌^◌, ◌<◌, ◌≤◌, IsTrue, if◌then◌else◌, slice_index, length, take};
 ghost use Rattle.maid_model.specs.declared.limits.TheConstants.{MOST_PLAN_CELLS};
 ghost use Rattle.factor_core.specs.Slots.{IsLiveSlot, AreStatesOf, IsCellAt};
 ghost use Rattle.factor_core.specs.Tables.{AreCounts, AreScopeStates, size_of, IsPlaceAt};

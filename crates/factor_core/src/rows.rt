@@ -1,6 +1,6 @@
 //! The strides that a walk begins with: a row for each node, with the stride of each slot.
 
-ghost use Rattle.std.specs.Prelude.{◌≡◌, ◌+◌, ◌-◌, ◌*◌, ◌^◌, ◌<◌, ◌≤◌, ℕ, All, length};
+ghost use Rattle.std.specs.Prelude.{◌≡◌, ◌+◌, ◌-◌, ◌*◌, ◌^◌, ◌<◌, ◌≤◌, All, length};
 ghost use Rattle.factor_core.specs.Rows.{HasStrideRow, HasNodes, row_beside, AreRowsOf, HaveRows, KeepRows, MayBeOf, AreRowsWith, AreSizesFrom};
 ghost use Rattle.factor_core.specs.Scopes.{united, united_but};
 ghost use Rattle.factor_core.specs.Tables.{AreCounts, size_of, listed, stride_over, size_onward};

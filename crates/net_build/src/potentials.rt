@@ -1,7 +1,6 @@
 //! The potentials of a text, node by node.
 
 ghost use Rattle.std.specs.Prelude.{◌≡◌, ◌≢◌, ◌<◌, true, [], length, drop, replicate, None, All, AllPairs, IfOk};
-ghost use Rattle.net_lexer.specs.Token.{IsTokenOf};
 ghost use Rattle.net_parser.specs.Owned.{IsBlockOf};
 ghost use Rattle.net_parser.specs.Grammar.{is_potential};
 ghost use Rattle.net_build.specs.Blocks.{title, conditions, potentials};
@@ -9,7 +8,7 @@ ghost use Rattle.net_build.specs.Linking.{node_named, borrowed_trees, taken_row,
 ghost use Rattle.net_build.specs.Lists.{numbers_of_lists};
 ghost use Rattle.first_fault.specs.Answers.{Passes};
 ghost use Rattle.net_build.specs.Passes.{build_fault};
-ghost use Rattle.net_build.specs.LinkCalls.{AreConditionNodes, AreNodesNamed, HasParents, HasPotentials, PassesAbsent, PassesBlock, PassesMissing, PassesPotentials, SetsList};
+ghost use Rattle.net_build.specs.LinkCalls.{AreConditionNodes, HasParents, HasPotentials, PassesAbsent, PassesBlock, PassesMissing, PassesPotentials, SetsList};
 ghost use Rattle.net_build.specs.TableSteps.{SetsPotential};
 
 use crate::conditions::{read_conditions, read_name};

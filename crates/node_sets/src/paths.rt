@@ -1,6 +1,6 @@
 //! Descendants and ancestors of a set.
 
-ghost use Rattle.std.specs.Prelude.{◌≡◌, ℕ, ◌<◌, ◌↔◌, IsTrue};
+ghost use Rattle.std.specs.Prelude.{ℕ, ◌<◌, ◌↔◌, IsTrue};
 ghost use Rattle.node_sets.specs.declared.sets.TheConstants.{MOST_NODES};
 ghost use Rattle.node_sets.specs.Sets.{IsIn, room};
 ghost use Rattle.node_sets.specs.Paths.{ParentArc, LeadsFrom, LeadsInto};

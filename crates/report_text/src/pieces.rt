@@ -1,6 +1,6 @@
 //! Fractions as text.
 
-ghost use Rattle.std.specs.Prelude.{◌≡◌, ◌<◌, ◌++◌, IfOk};
+ghost use Rattle.std.specs.Prelude.{◌≡◌, ◌<◌, IfOk};
 ghost use Rattle.maid_model.specs.Reports.{ratio_text};
 ghost use Rattle.line_pieces.specs.Pushed.{PushAppends};
 

@@ -1,6 +1,6 @@
 //! The report of an answered diagram.
 
-ghost use Rattle.std.specs.Prelude.{◌≡◌, ◌≢◌, ◌<◌, ◌+◌, ◌∷◌, ◌++◌, All, IfOk, codes, length};
+ghost use Rattle.std.specs.Prelude.{◌≡◌, ◌≢◌, ◌<◌, ◌+◌, ◌∷◌, All, IfOk, codes, length};
 ghost use Rattle.maid_model.specs.Answers.{FitsAnswer, FitsDiagram};
 ghost use Rattle.maid_model.specs.Names.{NamesFit, label_of};
 ghost use Rattle.maid_model.specs.Nodes.{IsDecision, node_at, parents_of, states_of, rows_under, rows_of};

@@ -1,6 +1,6 @@
 //! The weight bound of decisions and agents, and the place at which the first that fails does so.
 
-ghost use Rattle.std.specs.Prelude.{◌≡◌, ℕ, ◌<◌, ◌≤◌, length};
+ghost use Rattle.std.specs.Prelude.{◌≡◌, ◌<◌, length};
 ghost use Rattle.maid_model.specs.Diagrams.{IsDiagram};
 ghost use Rattle.maid_model.specs.Nodes.{IsDecision};
 ghost use Rattle.weight_scale.specs.Bound.{IsBoundPlace};

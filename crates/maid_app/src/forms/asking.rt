@@ -1,6 +1,6 @@
 //! What `info` and `control` share: the agent that is asked about, the first line, and what an edit is worth in words.
 
-ghost use Rattle.std.specs.Prelude.{◌≡◌, ◌++◌, IfOk, IfErr, length};
+ghost use Rattle.std.specs.Prelude.{◌≡◌, IfOk, IfErr, length};
 ghost use Rattle.first_fault.specs.Answers.{IsFaultOrNoMemory};
 ghost use Rattle.maid_model.specs.Names.{IsFirstPlace};
 ghost use Rattle.maid_app.specs.Asking.{asked_line, asking_stages};

@@ -1,6 +1,6 @@
 //! A chance node and one of its states, as the words name them.
 
-ghost use Rattle.std.specs.Prelude.{◌≢◌, ◌<◌, ℕ, IfSome, IfNone, IfOk, IfErr, length};
+ghost use Rattle.std.specs.Prelude.{◌≢◌, ◌<◌, IfSome, IfNone, IfOk, IfErr, length};
 ghost use Rattle.maid_model.specs.declared.diagrams.Kind.TheVariants.{Utility};
 ghost use Rattle.maid_model.specs.Names.{IsFirstPlace, NamesFit, labels_of};
 ghost use Rattle.maid_model.specs.Nodes.{node_at};

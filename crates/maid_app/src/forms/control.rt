@@ -1,6 +1,6 @@
 //! `control F A`: what control of chance nodes is worth to an agent, and its incentives there.
 
-ghost use Rattle.std.specs.Prelude.{◌≡◌, [], ◌++◌, All, IfOk, IfErr, if◌then◌else◌, length};
+ghost use Rattle.std.specs.Prelude.{◌≡◌, [], All, IfOk, IfErr, if◌then◌else◌, length};
 ghost use Rattle.maid_app.specs.Control.{control_line, control_nodes, control_text, weighing_control};
 ghost use Rattle.maid_app.specs.Found.{AreKnown};
 ghost use Rattle.maid_app.specs.Reading.{Prints, TellsFrom};

@@ -1,6 +1,6 @@
 //! `graph F`: who relies on whom.
 
-ghost use Rattle.std.specs.Prelude.{◌≡◌, ◌<◌, ◌++◌, All, IfOk, IfErr, length};
+ghost use Rattle.std.specs.Prelude.{◌<◌, All, IfOk, IfErr, length};
 ghost use Rattle.maid_model.specs.Names.{NamesFit};
 ghost use Rattle.relevance_graph.specs.Relevant.{IsRelevance};
 ghost use Rattle.maid_app.specs.Graph.{graphing, IsGraphText, IsLastLine, relies_line};

@@ -1,6 +1,6 @@
 //! `info F A`: what information is worth to an agent.
 
-ghost use Rattle.std.specs.Prelude.{◌≡◌, ◌++◌, All, IfOk, IfErr, length};
+ghost use Rattle.std.specs.Prelude.{◌≡◌, All, IfOk, IfErr, length};
 ghost use Rattle.maid_app.specs.Found.{AreKnown};
 ghost use Rattle.maid_app.specs.Info.{info_line, info_nodes, info_text, weighing_information};
 ghost use Rattle.maid_app.specs.Reading.{Prints, TellsFrom};

@@ -1,6 +1,6 @@
 //! `trim F`: the diagram without the arcs that decisions do not need.
 
-ghost use Rattle.std.specs.Prelude.{◌≡◌, ◌++◌, IfOk, IfErr};
+ghost use Rattle.std.specs.Prelude.{IfOk, IfErr};
 ghost use Rattle.app_lines.specs.Removed.{AreNamed};
 ghost use Rattle.maid_model.specs.Names.{NamesFit};
 ghost use Rattle.maid_app.specs.Reading.{Prints, TellsFrom};
