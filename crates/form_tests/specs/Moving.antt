@@ -26,14 +26,14 @@ oil = diagram_of (
     ∷ []) 1 0
 
 -- the first state may have no weight
-abbrev pub weights_of : Bool → List ℤ
-weights_of true = pos 1 ∷ pos 1 ∷ []
-weights_of false = pos 0 ∷ pos 1 ∷ []
+abbrev pub signal_weights : Bool → List ℤ
+signal_weights true = pos 1 ∷ pos 1 ∷ []
+signal_weights false = pos 0 ∷ pos 1 ∷ []
 
 -- the decision sees the signal: 3 for the first state in the one case, 1 for the second in the other
 abbrev pub steer : Bool → DiagramView
 steer even = diagram_of (
-    chance_node 2 [] (weights_of even)
+    chance_node 2 [] (signal_weights even)
     ∷ decision_node 0 2 (0 ∷ [])
     ∷ utility_node 0 (0 ∷ 1 ∷ []) (pos 3 ∷ pos 0 ∷ pos 0 ∷ pos 1 ∷ [])
     ∷ []) 1 0

@@ -1,7 +1,7 @@
 //! Tests of `threshold`: small diagrams, and how far a probability of theirs may move.
 
 ghost use Rattle.std.specs.Prelude.{◌≡◌, [], IfOk};
-ghost use Rattle.form_tests.specs.Moving.{bet, oil, steer, weights_of};
+ghost use Rattle.form_tests.specs.Moving.{bet, oil, steer, signal_weights};
 
 use maid_model::{Diagram, Ratio};
 use rule_solver::solve;
@@ -29,8 +29,8 @@ fn oil(alloc: Global) -> Result<Diagram, AllocError>
     sample_diagram(alloc, &nodes, 1, 0)
 }
 
-fn weights_of(even: bool) -> &'static [i128]
-    ensures { result.now ≡ weights_of even }
+fn signal_weights(even: bool) -> &'static [i128]
+    ensures { result.now ≡ signal_weights even }
 {
     if even { &[1, 1] } else { &[0, 1] }
 }
@@ -41,7 +41,7 @@ fn steer(alloc: Global, even: bool) -> Result<Diagram, AllocError>
     ensures { IfOk result (λ d. d ≡ steer even) }
 {
     let nodes = [
-        chance(2, &[], weights_of(even)),
+        chance(2, &[], signal_weights(even)),
         decision(0, 2, &[0]),
         utility(0, &[0, 1], &[3, 0, 0, 1]),
     ];
@@ -101,7 +101,7 @@ fn a_signal_may_move_freely(rt: HostRuntime) -> Result<(), Fail> {
         let solved = solve(alloc, &diagram)?;
         let first = span(alloc, &diagram, &solved, 0, 0, 0)?;
         assert_eq!(rt; first, interval(now, (0, 1), (1, 1)));
-        let second = span(alloc, &diagram, &solved, 0, 0, 1);
+        let second = span(alloc, &diagram, &solved, 0, 1, 0);
         if even {
             assert_eq!(rt; second, Ok(interval((1, 2), (0, 1), (1, 1))));
         } else {

@@ -135,8 +135,8 @@ module _ (laws : Laws) where
   finds_one (size_given node state) file = at_state_one node state file.1 TooLarge (λ d names x s. IsSmallEnoughGiven (all_seeing_diagram d x) x) (λ d names x s. TellsTooLargeGiven (all_seeing_diagram d x) x) (λ d names x s told small tells. tells.is_size.1 (small _ tells.is_size.0))
   finds_one (impossible node state) file = at_state_one node state file.1 Impossible (λ d names x s. IsImpossible (all_seeing d.nodes x) x s → ⊥) (λ d names x s. TellsImpossible (all_seeing d.nodes x) x s node state) (λ d names x s told possible tells. possible tells.impossible)
   finds_one (unknown_row node row state) file = at_state_one node state file.1 UnknownRow (λ d names x s. HasRow d x row) (λ d names x s. TellsUnknownRow d x row) (λ d names x s told has tells. tells.unknown has)
-  finds_one (no_others node row state) file = at_state_one node state file.1 NoOthers (λ d names x s. OthersWeighNought d.nodes x (row - 1) s → ⊥) (λ d names x s. TellsNoOthers d x row s node) (λ d names x s told others tells. others tells.nought)
-  finds_one (moved_bound node row state) file = at_state_one node state file.1 WeightBound (λ d names x s. KeepsMovedBound d x row s) (λ d names x s. TellsMovedBound d x row s names) (λ d names x s told keeps tells. not_moved d x row s names told keeps tells)
+  finds_one (no_others node row state) file = at_state_one node state file.1 NoOthers (λ d names x s. OthersWeighNought d.nodes x s (row - 1) → ⊥) (λ d names x s. TellsNoOthers d x s row node) (λ d names x s told others tells. others tells.nought)
+  finds_one (moved_bound node row state) file = at_state_one node state file.1 WeightBound (λ d names x s. KeepsMovedBound d x s row) (λ d names x s. TellsMovedBound d x s row names) (λ d names x s told keeps tells. not_moved d x s row names told keeps tells)
   finds_one too_many_leaves file = of_diagram_one file.1 TooLarge (λ d names. HasFewLeaves d) TellsLeaves (λ d names told few tells. omega (arith, few, tells.many))
   finds_one (bad_line text) file = of_diagram_one text TextFault (λ d names. IsReport d names file.1) (TellsBadLine file) (λ d names told is tells. laws.report_or_fault d names file.1 tells.at is tells.is_bad)
 

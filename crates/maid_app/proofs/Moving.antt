@@ -26,9 +26,9 @@ use Rattle.maid_app.proofs.SolveRefusals.{place_within}
 
 -- ---- the weight bound
 -- where other states have weight it is the bound that is passed
-pub bound_passed : (d : DiagramView) (x row state : ℕ) (at : Option ℕ) → span_pass d x row state (Some (WeightBound at)) → over (IsCommonMultiple d.nodes x row state) (total_pass d x) (Some (WeightBound at))
-bound_passed d x row state at (inl h) = let e = h.1 in absurd cc
-bound_passed d x row state at (inr h) = h.1
+pub bound_passed : (d : DiagramView) (x state row : ℕ) (at : Option ℕ) → span_pass d x state row (Some (WeightBound at)) → over (IsCommonMultiple d.nodes x state row) (total_pass d x) (Some (WeightBound at))
+bound_passed d x state row at (inl h) = let e = h.1 in absurd cc
+bound_passed d x state row at (inr h) = h.1
 
 same_place : (v x : ℕ) → WeightBound (Some v) ≡ WeightBound (Some x) → v ≡ x
 same_place v x e = cc
@@ -43,15 +43,15 @@ place_in d x total (Some v) l (inl h) = subst (λ n. n < length d.nodes) (sym (s
 place_in d x total (Some v) l (inr h) = subst (λ n. v < n) (with_as_many d.nodes x (map (λ w. w *ℤ pos (total / chance_total d.nodes x)) (node_at d.nodes x).cells)) (place_within (with_total d x total) v h.1)
 
 -- so it has a name
-pub bound_named : (d : DiagramView) (names : NamesView) (x row state : ℕ) (at : Option ℕ) → NamesFit d names → x < length d.nodes → span_pass d x row state (Some (WeightBound at)) → IfSome at (λ v. v < length names.nodes)
-bound_named d names x row state at fit l h =
-    let passed = bound_passed d x row state at h in
+pub bound_named : (d : DiagramView) (names : NamesView) (x state row : ℕ) (at : Option ℕ) → NamesFit d names → x < length d.nodes → span_pass d x state row (Some (WeightBound at)) → IfSome at (λ v. v < length names.nodes)
+bound_named d names x state row at fit l h =
+    let passed = bound_passed d x state row at h in
     subst (λ n. IfSome at (λ v. v < n)) (sym fit.nodes) (place_in d x passed.0 at l passed.2)
 
 -- and the line tells it
-pub bound_told : (d : DiagramView) (names : NamesView) (place : StatePlace) (row : ℕ) (at : Option ℕ) (told : List ℕ) → span_pass d place.node (row - 1) place.state (Some (WeightBound at)) → told ≡ bound_line names at
+pub bound_told : (d : DiagramView) (names : NamesView) (place : StatePlace) (row : ℕ) (at : Option ℕ) (told : List ℕ) → span_pass d place.node place.state (row - 1) (Some (WeightBound at)) → told ≡ bound_line names at
     → moved_pass d names place row (Some (refused statuses.WeightBound told))
-bound_told d names place row at told h says = (refl, record { at = at; passes = bound_passed d place.node (row - 1) place.state at h; says = says })
+bound_told d names place row at told h says = (refl, record { at = at; passes = bound_passed d place.node place.state (row - 1) at h; says = says })
 
 -- ---- the stages one behind another
 found_before : (name bytes : List ℕ) (front back : List Stage) (f : Refused) → each (λ s. Finds s (name, bytes)) front (Some f) → each (λ s. Finds s (name, bytes)) (front ++ back) (Some f)

@@ -100,7 +100,7 @@ clash d x total names at keeps (inl passes) = keeps.0 passes.0
 clash d x total names None keeps (inr passes) = not_passed (with_total d x total) names None keeps.1 passes.1
 clash d x total names (Some v) keeps (inr passes) = not_passed (with_total d x total) names (Some v) keeps.1 passes.1
 
-pub not_moved : (d : DiagramView) (x row state : ℕ) (names : NamesView) (told : List ℕ) → KeepsMovedBound d x row state → TellsMovedBound d x row state names told → ⊥
-not_moved d x row state names told keeps tells =
+pub not_moved : (d : DiagramView) (x state row : ℕ) (names : NamesView) (told : List ℕ) → KeepsMovedBound d x state row → TellsMovedBound d x state row names told → ⊥
+not_moved d x state row names told keeps tells =
     let same : keeps.0 ≡ tells.passes.0 = same_multiple _ _ keeps.0 tells.passes.0 keeps.1 tells.passes.1 in
     clash d x tells.passes.0 names tells.at (subst (λ total. total_pass d x total None) same keeps.2) tells.passes.2

@@ -18,19 +18,19 @@ pub record TellsUnknownRow (d : DiagramView) (x row : ℕ) (told : List ℕ) : T
   pub says : told ≡ unknown_row_line row
 
 -- all other states of the row weigh nought, which is told
-pub record TellsNoOthers (d : DiagramView) (x row state : ℕ) (name told : List ℕ) : Type 0 where
-  pub nought : OthersWeighNought d.nodes x (row - 1) state
+pub record TellsNoOthers (d : DiagramView) (x state row : ℕ) (name told : List ℕ) : Type 0 where
+  pub nought : OthersWeighNought d.nodes x state (row - 1)
   pub says : told ≡ no_other_state_line name
 
 -- with the common multiple in the place of x's total the weight bound is kept
 abbrev pub KeepsMovedBound : DiagramView → ℕ → ℕ → ℕ → Type 0
-KeepsMovedBound d x row state =
-    over (IsCommonMultiple d.nodes x (row - 1) state) (total_pass d x) None
+KeepsMovedBound d x state row =
+    over (IsCommonMultiple d.nodes x state (row - 1)) (total_pass d x) None
 
 -- the common multiple is out of range, or the weight bound is passed, and it is told where
 pub record TellsMovedBound
-    (d : DiagramView) (x row state : ℕ) (names : NamesView) (told : List ℕ) : Type 0 where
+    (d : DiagramView) (x state row : ℕ) (names : NamesView) (told : List ℕ) : Type 0 where
   pub at : Option ℕ
   pub passes :
-      over (IsCommonMultiple d.nodes x (row - 1) state) (total_pass d x) (Some (WeightBound at))
+      over (IsCommonMultiple d.nodes x state (row - 1)) (total_pass d x) (Some (WeightBound at))
   pub says : told ≡ bound_line names at

@@ -222,10 +222,10 @@ Finds (unknown_row node row state) file =
     stage UnknownRow (HasRow d x row) (TellsUnknownRow d x row)))
 Finds (no_others node row state) file =
     of_diagram file.1 (λ d names. at_state d names node state (λ x s.
-    stage NoOthers (OthersWeighNought d.nodes x (row - 1) s → ⊥) (TellsNoOthers d x row s node)))
+    stage NoOthers (OthersWeighNought d.nodes x s (row - 1) → ⊥) (TellsNoOthers d x s row node)))
 Finds (moved_bound node row state) file =
     of_diagram file.1 (λ d names. at_state d names node state (λ x s.
-    stage WeightBound (KeepsMovedBound d x row s) (TellsMovedBound d x row s names)))
+    stage WeightBound (KeepsMovedBound d x s row) (TellsMovedBound d x s row names)))
 Finds too_many_leaves file =
     of_diagram file.1 (λ d names. stage TooLarge (HasFewLeaves d) (TellsLeaves d names))
 Finds (bad_line text) file = of_diagram text (λ d names.

@@ -21,7 +21,7 @@ use Rattle.std.specs.Global.{Vec}
 
 -- the node, the row's number from 1, the state, its probability there, and the ends of the interval
 abbrev pub threshold_text : NamesView → ℕ → ℕ → ℕ → Interval → List ℕ
-threshold_text names x row state interval = line (codes "maidsolve threshold 1")
+threshold_text names x state row interval = line (codes "maidsolve threshold 1")
     ++ line (name_of names x ++ codes " row " ++ decimal row ++ codes ": "
     ++ quoted (label_of names x state) ++ codes " = " ++ ratio_text interval.now
     ++ codes " from " ++ ratio_text interval.low ++ codes " to " ++ ratio_text interval.high)
@@ -36,11 +36,11 @@ pub record HasThreshold
   pub solved : SolvedView
   pub solution : IsSolution d solved
   pub interval : Interval
-  pub now : TellsNow d.nodes place.node (row - 1) place.state interval
-  pub span : TellsSpan d solved place.node (row - 1) place.state interval
-  pub only : IsOnlySpan d solved place.node (row - 1) place.state interval
-  pub subgame_perfect : StaysPerfect d solved place.node (row - 1) place.state interval
-  pub is : printed ≡ threshold_text names place.node row place.state interval
+  pub now : TellsNow d.nodes place.node place.state (row - 1) interval
+  pub span : TellsSpan d solved place.node place.state (row - 1) interval
+  pub only : IsOnlySpan d solved place.node place.state (row - 1) interval
+  pub subgame_perfect : StaysPerfect d solved place.node place.state (row - 1) interval
+  pub is : printed ≡ threshold_text names place.node place.state row interval
 
 -- the diagram has the state and the row with another state of weight, the solver answers it, and the
 -- changed diagrams keep the weight bound
@@ -49,9 +49,9 @@ pub record CanBeMoved
   pub place : StatePlace
   pub is_place : IsStatePlace d names node state place
   pub has_row : HasRow d place.node row
-  pub others : OthersWeighNought d.nodes place.node (row - 1) place.state → ⊥
+  pub others : OthersWeighNought d.nodes place.node place.state (row - 1) → ⊥
   pub solvable : IsSolvable d
-  pub bound : KeepsMovedBound d place.node row place.state
+  pub bound : KeepsMovedBound d place.node place.state row
 
 -- the text's fault, an unknown node, state or row, and a row without other states
 abbrev pub place_stages : List ℕ → ℕ → List ℕ → List Stage
@@ -69,33 +69,33 @@ pub record IsCellPlace (d : DiagramView) (place : StatePlace) (row : ℕ) : Type
   pub kind : (node_at d.nodes place.node).kind ≡ Chance
   pub state : place.state < states_of d.nodes place.node
   pub has_row : HasRow d place.node row
-  pub others : OthersWeighNought d.nodes place.node (row - 1) place.state → ⊥
+  pub others : OthersWeighNought d.nodes place.node place.state (row - 1) → ⊥
 
 -- what the stages of the row find there
 abbrev pub row_pass : DiagramView → StatePlace → ℕ → List ℕ → Pass Refused
 row_pass d place row name =
     stage UnknownRow (HasRow d place.node row) (TellsUnknownRow d place.node row)
-    ▸ stage NoOthers (OthersWeighNought d.nodes place.node (row - 1) place.state → ⊥)
-    (TellsNoOthers d place.node row place.state name)
+    ▸ stage NoOthers (OthersWeighNought d.nodes place.node place.state (row - 1) → ⊥)
+    (TellsNoOthers d place.node place.state row name)
 
 -- and what that of the changed diagrams finds
 abbrev pub moved_pass : DiagramView → NamesView → StatePlace → ℕ → Pass Refused
 moved_pass d names place row =
-    stage WeightBound (KeepsMovedBound d place.node row place.state)
-    (TellsMovedBound d place.node row place.state names)
+    stage WeightBound (KeepsMovedBound d place.node place.state row)
+    (TellsMovedBound d place.node place.state row names)
 
 -- ---- of a row counted from 1
 -- the interval is the only one on which the answer's rules stay best
 abbrev pub IsOnlySpanAt : DiagramView → SolvedView → StatePlace → ℕ → Interval → Type 0
 IsOnlySpanAt d solved place row interval =
-    IsOnlySpan d solved place.node (row - 1) place.state interval
+    IsOnlySpan d solved place.node place.state (row - 1) interval
 
 -- inside the interval the answer's rules stay subgame-perfect
 abbrev pub StaysPerfectAt : DiagramView → SolvedView → StatePlace → ℕ → Interval → Type 0
 StaysPerfectAt d solved place row interval =
-    StaysPerfect d solved place.node (row - 1) place.state interval
+    StaysPerfect d solved place.node place.state (row - 1) interval
 
 -- the text of the bytes is that of the interval
 abbrev pub IsThresholdText : NamesView → StatePlace → ℕ → Interval → Vec ℕ → Type 0
 IsThresholdText names place row interval text =
-    text.items ≡ threshold_text names place.node row place.state interval
+    text.items ≡ threshold_text names place.node place.state row interval

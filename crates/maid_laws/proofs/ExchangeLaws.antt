@@ -31,10 +31,10 @@ use Rattle.maid_laws.proofs.Tied.{decision_of, dec_decision, tables_of}
 module _ (nodes : List NodeView) (g : IsGraph nodes) (c : HasChanceTables nodes) (s : List RuleView) (b : IsBestInBases nodes s) where
   -- in each row of a decision one state has the weight 1 and the others none
   chosen : (d row : ℕ) → IsDecision nodes d → row < rows_of nodes d
-      → (x : ℕ) × (x < states_of nodes d) × ((i : ℕ) → i < states_of nodes d → pos (weight_at nodes s d row i) ≡ cond (eqb i x) (pos 1) (pos 0))
+      → (x : ℕ) × (x < states_of nodes d) × ((i : ℕ) → i < states_of nodes d → pos (weight_at nodes s d i row) ≡ cond (eqb i x) (pos 1) (pos 0))
   chosen d row k l =
-      one_of (states_of nodes d) (weight_at nodes s d row)
-      (sum_below_cong (states_of nodes d) (λ i. pos (weight_at nodes s d row i)) (λ i. slice_index_or (map pos (weights_of s d)) (row * states_of nodes d + i) (pos 0)) (λ i m. sym (at_pos (weights_of s d) (row * states_of nodes d + i)))
+      one_of (states_of nodes d) (λ x. weight_at nodes s d x row)
+      (sum_below_cong (states_of nodes d) (λ i. pos (weight_at nodes s d i row)) (λ i. slice_index_or (map pos (weights_of s d)) (row * states_of nodes d + i) (pos 0)) (λ i m. sym (at_pos (weights_of s d) (row * states_of nodes d + i)))
       ∙ (b.profile.rule d k).table.row row l ∙ ap pos (b.pure d k))
 
   -- that state, where the decision has the row
@@ -48,11 +48,11 @@ module _ (nodes : List NodeView) (g : IsGraph nodes) (c : HasChanceTables nodes)
   choice d row = choice_by d row (dec_decision nodes d) (dec_lt row (rows_of nodes d))
 
   -- it is a state, and the only one with weight
-  choice_is : (d row : ℕ) → IsDecision nodes d → row < rows_of nodes d → (choice d row < states_of nodes d) × ((i : ℕ) → i < states_of nodes d → pos (weight_at nodes s d row i) ≡ cond (eqb i (choice d row)) (pos 1) (pos 0))
+  choice_is : (d row : ℕ) → IsDecision nodes d → row < rows_of nodes d → (choice d row < states_of nodes d) × ((i : ℕ) → i < states_of nodes d → pos (weight_at nodes s d i row) ≡ cond (eqb i (choice d row)) (pos 1) (pos 0))
   unfolding choice choice_by
   choice_is d row k l = go (dec_decision nodes d) (dec_lt row (rows_of nodes d))
     where
-      go : (e : Dec (IsDecision nodes d)) (f : Dec (row < rows_of nodes d)) → (choice_by d row e f < states_of nodes d) × ((i : ℕ) → i < states_of nodes d → pos (weight_at nodes s d row i) ≡ cond (eqb i (choice_by d row e f)) (pos 1) (pos 0))
+      go : (e : Dec (IsDecision nodes d)) (f : Dec (row < rows_of nodes d)) → (choice_by d row e f < states_of nodes d) × ((i : ℕ) → i < states_of nodes d → pos (weight_at nodes s d i row) ≡ cond (eqb i (choice_by d row e f)) (pos 1) (pos 0))
       go (yes x) (yes y) = ((chosen d row x y).1, (chosen d row x y).2)
       go (yes x) (no n) = absurd (n l)
       go (no n) f = absurd (n k)
@@ -98,17 +98,17 @@ module _ (nodes : List NodeView) (g : IsGraph nodes) (c : HasChanceTables nodes)
   unfolding base base_by
   best d row x live kind l lx = go (dec_decision nodes d)
     where
-      ch : (choice d row < states_of nodes d) × ((i : ℕ) → i < states_of nodes d → pos (weight_at nodes s d row i) ≡ cond (eqb i (choice d row)) (pos 1) (pos 0))
+      ch : (choice d row < states_of nodes d) × ((i : ℕ) → i < states_of nodes d → pos (weight_at nodes s d i row) ≡ cond (eqb i (choice d row)) (pos 1) (pos 0))
       ch = choice_is d row (decision_of nodes d kind) l
 
       natural : {m n : ℕ} → ◌≡◌ {A = ℤ} (pos m) (pos n) → m ≡ n
       natural e = cc
 
-      one : weight_at nodes s d row (choice d row) ≡ 1
+      one : weight_at nodes s d (choice d row) row ≡ 1
       one = natural (ch.1 (choice d row) ch.0 ∙ ap (λ y. cond y (pos 1) (pos 0)) (eqb_yes (choice d row) (choice d row) refl))
 
       go : (f : Dec (IsDecision nodes d)) → pos 0 <ℤ mass_at nodes (base_by d f) d row → gain_at nodes (base_by d f) d x row ≤ℤ gain_at nodes (base_by d f) d (choice d row) row
-      go (yes j) m = (b.best d j).best row (choice d row) x l ch.0 one m lx
+      go (yes j) m = (b.best d j).best (choice d row) x row ch.0 l one m lx
       go (no n) m = absurd (n (decision_of nodes d kind))
 
   -- so s is best, in the words of the proofs

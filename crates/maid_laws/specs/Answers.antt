@@ -19,7 +19,7 @@ use Rattle.maid_laws.specs.Exchange.{IsBestInBases}
 pub record HasBestChoices (d : DiagramView) (solved : SolvedView) (v : ℕ) : Type 0 where
   pub base : List RuleView
   pub is_base : IsBase d.nodes (answered d solved) v base
-  pub best : (row state : ℕ) → row < rows_of d.nodes v → state < states_of d.nodes v
+  pub best : (state row : ℕ) → state < states_of d.nodes v → row < rows_of d.nodes v
       → pos 0 <ℤ mass_at d.nodes base v row
       → gain_at d.nodes base v state row
       ≤ℤ gain_at d.nodes base v (answer_at solved v row).choice row

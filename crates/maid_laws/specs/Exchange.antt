@@ -12,15 +12,15 @@ use Rattle.maid_model.specs.Subgames.{IsSubgamePerfect, IsOptimal, OwnsAll}
 
 -- the weight that the profile gives to the state in the row of d
 abbrev pub weight_at : List NodeView → List RuleView → ℕ → ℕ → ℕ → ℕ
-weight_at nodes p d row state = slice_index (weights_of p d) (row * states_of nodes d + state)
+weight_at nodes p d state row = slice_index (weights_of p d) (row * states_of nodes d + state)
 
 -- in each row in which d's base in s has mass, no state has a greater gain against the base than the one to which s
 -- gives the weight 1
 pub record IsBestInBase (nodes : List NodeView) (s : List RuleView) (d : ℕ) : Type 0 where
   pub base : List RuleView
   pub is_base : IsBase nodes s d base
-  pub best : (row choice state : ℕ) → row < rows_of nodes d → choice < states_of nodes d
-      → weight_at nodes s d row choice ≡ 1 → pos 0 <ℤ mass_at nodes base d row
+  pub best : (choice state row : ℕ) → choice < states_of nodes d → row < rows_of nodes d
+      → weight_at nodes s d choice row ≡ 1 → pos 0 <ℤ mass_at nodes base d row
       → state < states_of nodes d
       → gain_at nodes base d state row ≤ℤ gain_at nodes base d choice row
 

@@ -306,8 +306,8 @@ module _ (d : DiagramView) (is : IsDiagram d) (p : List RuleView) (prof : IsProf
           pub base_step : (ys : List ℕ) → IsWorld (counts_of d.nodes) ys → worlds_from (counts_of d.nodes) xs ≡ xs ∷ worlds_from (counts_of d.nodes) ys → BaseSoFar d.nodes p v marks gains' masses' ys
           base_step ys world split = subst (λ l. BaseSoFar d.nodes p v marks l masses' ys) (sym gains_are) (subst (λ l. BaseSoFar d.nodes p v marks gains_next l ys) (sym masses_are) (step ys world split))
 
-          pub base_gains : worlds_from (counts_of d.nodes) xs ≡ xs ∷ [] → (r t : ℕ) → r < rows_of d.nodes v → t < states_of d.nodes v → slice_index_or gains' (r * states_of d.nodes v + t) (pos 0) ≡ gain_at d.nodes p v t r
-          base_gains split r t lr lt = ap (λ l. slice_index_or l (r * states_of d.nodes v + t) (pos 0)) gains_are ∙ sym (+ℤ_idr (slice_index_or gains_next (r * states_of d.nodes v + t) (pos 0))) ∙ cell_next [] split r t lr lt
+          pub base_gains : worlds_from (counts_of d.nodes) xs ≡ xs ∷ [] → (t r : ℕ) → t < states_of d.nodes v → r < rows_of d.nodes v → slice_index_or gains' (r * states_of d.nodes v + t) (pos 0) ≡ gain_at d.nodes p v t r
+          base_gains split t r lt lr = ap (λ l. slice_index_or l (r * states_of d.nodes v + t) (pos 0)) gains_are ∙ sym (+ℤ_idr (slice_index_or gains_next (r * states_of d.nodes v + t) (pos 0))) ∙ cell_next [] split r t lr lt
 
           pub base_masses : worlds_from (counts_of d.nodes) xs ≡ xs ∷ [] → (r : ℕ) → r < rows_of d.nodes v → pos (slice_index masses' r) ≡ mass_at d.nodes p v r
           base_masses split r lr = ap (λ l. pos (slice_index l r)) masses_are ∙ sym (+ℤ_idr (pos (slice_index masses_next r))) ∙ mass_cell [] split r lr

@@ -35,9 +35,9 @@ gain_of nodes p agent = sum_worlds nodes (λ w. weight nodes p w *ℤ utility no
 
 -- the gain of a row's state in a list with a number for each row and state, the state fastest
 abbrev pub gain_in : List ℤ → ℕ → ℕ → ℕ → ℤ
-gain_in gains states row s = slice_index_or gains (row * states + s) (pos 0)
+gain_in gains states s row = slice_index_or gains (row * states + s) (pos 0)
 
--- none of the gains is above the greatest number
+-- no gain's size is above the greatest number
 abbrev pub AreSmallGains : List ℤ → Type 0
 AreSmallGains gains = (i : ℕ) → nat_abs (slice_index_or gains i (pos 0)) ≤ greatest_number
 
@@ -81,7 +81,7 @@ HasGainCells nodes d gains = length gains ≡ rows_of nodes d * states_of nodes 
 
 -- the gain of each state in each row of the decision, row by row and the state fastest
 abbrev pub AreGainsAt : List NodeView → List RuleView → ℕ → List ℤ → Type 0
-AreGainsAt nodes p d gains = (row s : ℕ) → row < rows_of nodes d → s < states_of nodes d
+AreGainsAt nodes p d gains = (s row : ℕ) → s < states_of nodes d → row < rows_of nodes d
     → slice_index_or gains (row * states_of nodes d + s) (pos 0) ≡ gain_at nodes p d s row
 
 -- the mass of each row of the decision

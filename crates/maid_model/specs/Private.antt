@@ -60,5 +60,5 @@ mass_after state weight mass = if state == 0 then mass + weight else mass
 
 -- the row's mass counts the world too, and the other rows keep theirs
 abbrev pub AddsMass : ℕ → ℕ → ℕ → List ℕ → List ℕ → Type 0
-AddsMass row state weight before after =
+AddsMass state row weight before after =
     after ≡ slice_set before row (mass_after state weight (slice_index before row))

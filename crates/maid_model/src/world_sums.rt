@@ -76,7 +76,7 @@ pub fn base_sums(
         let row = world.row(diagram, decision);
         let state = world.states[decision];
         add_gain(gains, row * states + state, gain);
-        add_mass(masses, row, state, weight);
+        add_mass(masses, state, row, weight);
         if !world.next(diagram) {
             return;
         }
@@ -126,10 +126,10 @@ fn add_gain(gains: &mut [i128], cell: usize, gain: i128)
 }
 
 /// Adds the weight to the row's mass, at the first state alone.
-fn add_mass(masses: &mut [u128], row: usize, state: usize, weight: u128)
+fn add_mass(masses: &mut [u128], state: usize, row: usize, weight: u128)
     requires row { row < length masses.old }
     requires fits { slice_index masses.old row + weight ≤ greatest_number }
-    ensures { AddsMass row state weight masses.old masses.new }
+    ensures { AddsMass state row weight masses.old masses.new }
 {
     if state == 0 {
         masses[row] += weight;

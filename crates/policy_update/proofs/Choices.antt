@@ -118,11 +118,11 @@ best_end gain choice best k n all was within h = record {
 -- the first rows, each improved by its own gains, and without worths
 pub record AreImprovedTo (gain : ℕ → ℕ → ℤ) (states : ℕ) (before : List Row) (n : ℕ) (after : List Row) : Type 0 where
   pub count : length after ≡ n
-  pub each : (row : ℕ) → row < n → IsImproved (gain row) states (slice_index_or before row no_row).choice (slice_index_or after row no_row).choice
+  pub each : (row : ℕ) → row < n → IsImproved (λ s. gain s row) states (slice_index_or before row no_row).choice (slice_index_or after row no_row).choice
   pub worthless : All (λ (r : Row). r.worth ≡ None) after
 
 pub rows_more : (gain : ℕ → ℕ → ℤ) (states : ℕ) (before : List Row) (n : ℕ) (after : List Row) (r : Row) → AreImprovedTo gain states before n after
-    → IsImproved (gain n) states (slice_index_or before n no_row).choice r.choice → r.worth ≡ None → AreImprovedTo gain states before (n + 1) (after ++ r ∷ [])
+    → IsImproved (λ s. gain s n) states (slice_index_or before n no_row).choice r.choice → r.worth ≡ None → AreImprovedTo gain states before (n + 1) (after ++ r ∷ [])
 rows_more gain states before n after r h here none = record {
   count = length-append after (r ∷ []) ∙ ap (λ k. k + 1) h.count;
   each = λ row l. go row l (ℕ_discrete row n);
@@ -136,10 +136,10 @@ rows_more gain states before n after r h here none = record {
         end [] = refl
         end (x ∷ xs) = end xs
 
-    go : (row : ℕ) → row < n + 1 → Dec (row ≡ n) → IsImproved (gain row) states (slice_index_or before row no_row).choice (slice_index_or (after ++ r ∷ []) row no_row).choice
-    go row l (yes e) = subst (λ k. IsImproved (gain k) states (slice_index_or before k no_row).choice (slice_index_or (after ++ r ∷ []) k no_row).choice) (sym e)
-        (subst (λ x. IsImproved (gain n) states (slice_index_or before n no_row).choice x.choice) (sym last) here)
-    go row l (no m) = subst (λ x. IsImproved (gain row) states (slice_index_or before row no_row).choice x.choice) (sym (get_or_append_left after (r ∷ []) no_row row (subst (λ k. row < k) (sym h.count) (at_most n row l m)))) (h.each row (at_most n row l m))
+    go : (row : ℕ) → row < n + 1 → Dec (row ≡ n) → IsImproved (λ s. gain s row) states (slice_index_or before row no_row).choice (slice_index_or (after ++ r ∷ []) row no_row).choice
+    go row l (yes e) = subst (λ k. IsImproved (λ s. gain s k) states (slice_index_or before k no_row).choice (slice_index_or (after ++ r ∷ []) k no_row).choice) (sym e)
+        (subst (λ x. IsImproved (λ s. gain s n) states (slice_index_or before n no_row).choice x.choice) (sym last) here)
+    go row l (no m) = subst (λ x. IsImproved (λ s. gain s row) states (slice_index_or before row no_row).choice x.choice) (sym (get_or_append_left after (r ∷ []) no_row row (subst (λ k. row < k) (sym h.count) (at_most n row l m)))) (h.each row (at_most n row l m))
 
 pub rows_end : (gain : ℕ → ℕ → ℤ) (states : ℕ) (before : List Row) (n : ℕ) (after : List Row) → n ≡ length before → AreImprovedTo gain states before n after → AreImproved gain states before after
 rows_end gain states before n after e h = record { count = h.count ∙ e; each = λ row l. h.each row (subst (λ k. row < k) (sym e) l); worthless = h.worthless }

@@ -21,7 +21,7 @@ use Rattle.maid_laws.proofs.SameProfile.{decided, decisions_apart, same_profile}
 use Rattle.reach_laws.specs.Equilibria.{ChoicesOfAnswers}
 use Rattle.reach_laws.specs.Updates.{IsImproved, IsStep, start_profile}
 use Rattle.reach_laws.proofs.Listed.{below_of, same_choices}
-use Rattle.policy_update.specs.Steps.{AreImproved, AreSameChoices, IsProfileOf, first_choices, gains_in}
+use Rattle.policy_update.specs.Steps.{AreImproved, AreSameChoices, IsProfileOf, first_choices}
 use Rattle.policy_update.specs.Updated.{AreChoices, TellsNoWorth}
 
 -- ---- the rows found at a decision
@@ -177,9 +177,9 @@ module _ (nodes : List NodeView) (law : ChoicesOfAnswers) where
       before = (slice_index_or (rows_at answers d) row no_row).choice;
       after = (slice_index_or (rows_at others d) row no_row).choice;
       chosen = ap (λ r. get_or (weights_of r d) (row * states_of nodes d + (slice_index_or (rows_at answers d) row no_row).choice) 0) h.rules
-          ∙ ((law nodes answers (choices_fit nodes answers h.choices)).1 d row (slice_index_or (rows_at answers d) row no_row).choice k l (rows row l).was).1 refl;
+          ∙ ((law nodes answers (choices_fit nodes answers h.choices)).1 d (slice_index_or (rows_at answers d) row no_row).choice row k (rows row l).was l).1 refl;
       taken = ap (λ r. get_or (weights_of r d) (row * states_of nodes d + (slice_index_or (rows_at others d) row no_row).choice) 0) j.rules
-          ∙ ((law nodes others (choices_fit nodes others j.choices)).1 d row (slice_index_or (rows_at others d) row no_row).choice k l (rows row l).within).1 refl;
+          ∙ ((law nodes others (choices_fit nodes others j.choices)).1 d (slice_index_or (rows_at others d) row no_row).choice row k (rows row l).within l).1 refl;
       improved = rows row l;
     };
   }
@@ -195,15 +195,15 @@ pub record IsImprovement (nodes : List NodeView) (answers : List AnswerView) (p 
   pub plan : IsProfileOf nodes answers p
   pub within : i < length answers
   pub here : a ≡ get_or answers i a
-  pub improved : AreImproved (gains_in nodes p a.decision) (states_of nodes a.decision) a.rows after
+  pub improved : AreImproved (gain_at nodes p a.decision) (states_of nodes a.decision) a.rows after
 
 pub improvement_is : (nodes : List NodeView) (answers : List AnswerView) (p : List RuleView) (i : ℕ) (a e : AnswerView) (after : List Row) → IsProfileOf nodes answers p → i < length answers → a ≡ get_or answers i e
-    → AreImproved (gains_in nodes p (get_or answers i e).decision) (states_of nodes (get_or answers i e).decision) (get_or answers i e).rows after → IsImprovement nodes answers p i a after
+    → AreImproved (gain_at nodes p (get_or answers i e).decision) (states_of nodes (get_or answers i e).decision) (get_or answers i e).rows after → IsImprovement nodes answers p i a after
 improvement_is nodes answers p i a e after plan l is improved = record {
   plan = plan;
   within = l;
   here = is ∙ get_or_default answers i e a l;
-  improved = subst (λ (x : AnswerView). AreImproved (gains_in nodes p x.decision) (states_of nodes x.decision) x.rows after) (sym is) improved;
+  improved = subst (λ (x : AnswerView). AreImproved (gain_at nodes p x.decision) (states_of nodes x.decision) x.rows after) (sym is) improved;
 }
 
 -- this rule has the rows' choices, and replaces the decision's rule

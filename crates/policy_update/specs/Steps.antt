@@ -27,7 +27,7 @@ choice_in rows row = (slice_index_or rows row no_row).choice
 pub record AreImproved (gain : ℕ → ℕ → ℤ) (states : ℕ) (before after : List Row) : Type 0 where
   pub count : length after ≡ length before
   pub each : (row : ℕ) → row < length before
-      → IsImproved (gain row) states (choice_in before row) (choice_in after row)
+      → IsImproved (λ s. gain s row) states (choice_in before row) (choice_in after row)
   pub worthless : All (λ (r : Row). r.worth ≡ None) after
 
 -- so they are by the gains of such a list
@@ -39,14 +39,10 @@ abbrev pub AreSameChoices : List Row → List Row → Type 0
 AreSameChoices rows others =
     (row : ℕ) → row < length others → choice_in rows row ≡ choice_in others row
 
--- what each state of the decision gains in a row against the profile
-abbrev pub gains_in : List NodeView → List RuleView → ℕ → ℕ → ℕ → ℤ
-gains_in nodes p d row state = gain_at nodes p d state row
-
 -- these rows improve those of the answer, with all other rules as they stand
 abbrev pub Improves : List NodeView → List RuleView → AnswerView → List Row → Type 0
 Improves nodes p a rows =
-    AreImproved (gains_in nodes p a.decision) (states_of nodes a.decision) a.rows rows
+    AreImproved (gain_at nodes p a.decision) (states_of nodes a.decision) a.rows rows
 
 -- so the program has the rows
 abbrev pub ImprovesRows : List NodeView → List RuleView → AnswerView → Vec Row → Type 0

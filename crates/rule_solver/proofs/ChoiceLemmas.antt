@@ -30,11 +30,11 @@ use Rattle.rule_solver.proofs.Orders.{IsClosed, first_closed, relied_before, ord
 
 -- ---- the rows of a decision
 -- one more chosen row
-pub chosen-push : (gain : ℕ → ℕ → ℤ) (states number : ℕ) (rows : List Row) (r : Row) → ChoosesRows gain states number rows → ((s : ℕ) → s < states → gain number s ≤ℤ gain number r.choice) → r.choice < states → IfSome r.worth IsReduced
+pub chosen-push : (gain : ℕ → ℕ → ℤ) (states number : ℕ) (rows : List Row) (r : Row) → ChoosesRows gain states number rows → ((s : ℕ) → s < states → gain s number ≤ℤ gain r.choice number) → r.choice < states → IfSome r.worth IsReduced
     → ChoosesRows gain states (number + 1) (rows ++ r ∷ [])
 chosen-push gain states number rows r a best inside reduced = record {
   count = length-append rows (r ∷ []) ∙ ap (λ n. n + 1) a.count;
-  best = λ row s k l. go row s k l (ℕ_discrete row number);
+  best = λ s row l k. go s row l k (ℕ_discrete row number);
   choices = All-push (λ x. x.choice < states) rows r a.choices inside;
   worths = All-push (λ x. IfSome x.worth IsReduced) rows r a.worths reduced;
 }
@@ -42,14 +42,14 @@ chosen-push gain states number rows r a best inside reduced = record {
     smaller : (row : ℕ) → row < number + 1 → (row ≡ number → ⊥) → row < number
     smaller row k n = omega arith
 
-    go : (row s : ℕ) → row < number + 1 → s < states → Dec (row ≡ number) → gain row s ≤ℤ gain row (get_or (rows ++ r ∷ []) row no_row).choice
-    go row s k l (yes e) = subst (λ i. gain i s ≤ℤ gain i (get_or (rows ++ r ∷ []) i no_row).choice) (sym e) (subst (λ (x : Row). gain number s ≤ℤ gain number x.choice) (sym last) (best s l))
+    go : (s row : ℕ) → s < states → row < number + 1 → Dec (row ≡ number) → gain s row ≤ℤ gain (get_or (rows ++ r ∷ []) row no_row).choice row
+    go s row l k (yes e) = subst (λ i. gain s i ≤ℤ gain (get_or (rows ++ r ∷ []) i no_row).choice i) (sym e) (subst (λ (x : Row). gain s number ≤ℤ gain x.choice number) (sym last) (best s l))
       where
         last : get_or (rows ++ r ∷ []) number no_row ≡ r
         last = subst (λ i. get_or (rows ++ r ∷ []) i no_row ≡ r) a.count (get_or-append_seam rows r [] no_row)
-    go row s k l (no n) =
+    go s row l k (no n) =
         let h : row < length rows = subst (λ i. row < i) (sym a.count) (smaller row k n) in
-        subst (λ (x : Row). gain row s ≤ℤ gain row x.choice) (sym (get_or_append_left rows (r ∷ []) no_row row h)) (a.best row s (smaller row k n) l)
+        subst (λ (x : Row). gain s row ≤ℤ gain x.choice row) (sym (get_or_append_left rows (r ∷ []) no_row row h)) (a.best s row l (smaller row k n))
 
 -- choices that are best in the part of the scope are best in the whole, where both decide alike
 pub chosen_by : (nodes : List NodeView) (base : List RuleView) (d : ℕ) (gains : List ℤ) (rows : List Row) → ((row : ℕ) → DecidesAlike nodes base (scope_of nodes d) d row)
@@ -57,17 +57,17 @@ pub chosen_by : (nodes : List NodeView) (base : List RuleView) (d : ℕ) (gains 
     → IsChosenBy nodes base d rows
 chosen_by nodes base d gains rows alike sums a = record {
   count = a.count;
-  best = λ row s k l.
+  best = λ s row l k.
       let choice : ℕ = (get_or rows row no_row).choice in
       let inside : choice < states_of nodes d = a.choices row no_row (subst (λ n. row < n) (sym a.count) k) in
       ((alike row).best s choice).1
       (subst (λ z. scope_gain nodes base d s row ≤ℤ z) (there choice row inside k)
-      (subst (λ z. z ≤ℤ gain_in gains (states_of nodes d) row choice) (there s row l k) (a.best row s k l)));
+      (subst (λ z. z ≤ℤ gain_in gains (states_of nodes d) choice row) (there s row l k) (a.best s row l k)));
   choices = a.choices;
   worths = a.worths;
 }
   where
-    there : (state row : ℕ) → state < states_of nodes d → row < rows_of nodes d → gain_in gains (states_of nodes d) row state ≡ scope_gain nodes base d state row
+    there : (state row : ℕ) → state < states_of nodes d → row < rows_of nodes d → gain_in gains (states_of nodes d) state row ≡ scope_gain nodes base d state row
     there state row h k = sums.gain state row h k
 
 -- ---- decision by decision
@@ -182,4 +182,4 @@ is_optimum d agent profile order answers r g t choices exchange one owns pure is
     best : (v : ℕ) → IsDecision d.nodes v → HasBestChoices d solved v
     best v is =
         let at : IsChosenAt d.nodes (pure_profile d.nodes answers) v (rows_at answers v) = rows_found (IsChosenAt d.nodes (pure_profile d.nodes answers)) answers h.each v (subst (λ list. Contains list v) (sym h.follow) (is_order.complete v is)) in
-        record { base = at.base; is_base = at.is_base; best = λ row state k l m. at.chosen.best row state k l }
+        record { base = at.base; is_base = at.is_base; best = λ state row l k m. at.chosen.best state row l k }

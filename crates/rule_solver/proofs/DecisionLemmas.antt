@@ -66,7 +66,7 @@ answered_by nodes decimals base d gains masses rows alike sums a = record {
       let here : row < length masses = subst (λ n. row < n) (sym sums.mass_count) h in
       let inside : row < length rows = subst (λ n. row < n) (sym a.count) here in
       answer_row_is nodes decimals base d row (slice_index masses row) (get_or rows row no_row) (alike row) (sums.mass_there row h)
-      (answers-same (gain_in gains (states_of nodes d) row) (λ s. scope_gain nodes base d s row) (states_of nodes d) (slice_index masses row) (10 ^ decimals) (get_or rows row no_row) (λ s k. sums.gain s row k h) (a.choices row no_row inside) (a.each row here));
+      (answers-same (λ s. gain_in gains (states_of nodes d) s row) (λ s. scope_gain nodes base d s row) (states_of nodes d) (slice_index masses row) (10 ^ decimals) (get_or rows row no_row) (λ s k. sums.gain s row k h) (a.choices row no_row inside) (a.each row here));
   choices = a.choices;
   worths = a.worths;
 }

@@ -24,7 +24,7 @@ answers-same f g states mass scale r same inside a = record {
     before s k = omega arith
 
 -- one more answered row
-pub answers-push : (gain : ℕ → ℕ → ℤ) (mass : ℕ → ℕ) (states scale number : ℕ) (rows : List Row) (r : Row) → AnswersRows gain mass states scale number rows → AnswersRow (gain number) states (mass number) scale r → r.choice < states → IfSome r.worth IsReduced → AnswersRows gain mass states scale (number + 1) (rows ++ r ∷ [])
+pub answers-push : (gain : ℕ → ℕ → ℤ) (mass : ℕ → ℕ) (states scale number : ℕ) (rows : List Row) (r : Row) → AnswersRows gain mass states scale number rows → AnswersRow (λ s. gain s number) states (mass number) scale r → r.choice < states → IfSome r.worth IsReduced → AnswersRows gain mass states scale (number + 1) (rows ++ r ∷ [])
 answers-push gain mass states scale number rows r a h inside reduced = record {
   count = length-append rows (r ∷ []) ∙ ap (λ n. n + 1) a.count;
   each = λ row k. go row k (ℕ_discrete row number);
@@ -35,11 +35,11 @@ answers-push gain mass states scale number rows r a h inside reduced = record {
     smaller : (row : ℕ) → row < number + 1 → (row ≡ number → ⊥) → row < number
     smaller row k n = omega arith
 
-    go : (row : ℕ) → row < number + 1 → Dec (row ≡ number) → AnswersRow (gain row) states (mass row) scale (get_or (rows ++ r ∷ []) row no_row)
-    go row k (yes e) = subst (λ i. AnswersRow (gain i) states (mass i) scale (get_or (rows ++ r ∷ []) i no_row)) (sym e) (subst (λ x. AnswersRow (gain number) states (mass number) scale x) (sym last) h)
+    go : (row : ℕ) → row < number + 1 → Dec (row ≡ number) → AnswersRow (λ s. gain s row) states (mass row) scale (get_or (rows ++ r ∷ []) row no_row)
+    go row k (yes e) = subst (λ i. AnswersRow (λ s. gain s i) states (mass i) scale (get_or (rows ++ r ∷ []) i no_row)) (sym e) (subst (λ x. AnswersRow (λ s. gain s number) states (mass number) scale x) (sym last) h)
       where
         last : get_or (rows ++ r ∷ []) number no_row ≡ r
         last = subst (λ i. get_or (rows ++ r ∷ []) i no_row ≡ r) a.count (get_or-append_seam rows r [] no_row)
     go row k (no n) =
         let l : row < length rows = subst (λ i. row < i) (sym a.count) (smaller row k n) in
-        subst (λ x. AnswersRow (gain row) states (mass row) scale x) (sym (get_or_append_left rows (r ∷ []) no_row row l)) (a.each row (smaller row k n))
+        subst (λ x. AnswersRow (λ s. gain s row) states (mass row) scale x) (sym (get_or_append_left rows (r ∷ []) no_row row l)) (a.each row (smaller row k n))

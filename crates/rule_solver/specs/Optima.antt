@@ -9,15 +9,15 @@ use Rattle.maid_model.specs.Views.{NodeView, RuleView, AnswerView}
 -- so many rows, in each of which no state has a greater gain than the choice
 pub record ChoosesRows (gain : ℕ → ℕ → ℤ) (states number : ℕ) (rows : List Row) : Type 0 where
   pub count : length rows ≡ number
-  pub best : (row state : ℕ) → row < number → state < states
-      → gain row state ≤ℤ gain row (slice_index_or rows row no_row).choice
+  pub best : (state row : ℕ) → state < states → row < number
+      → gain state row ≤ℤ gain (slice_index_or rows row no_row).choice row
   pub choices : All (λ r. r.choice < states) rows
   pub worths : All (λ r. IfSome r.worth IsReduced) rows
 
 -- a row for each choice of the parents' states, best against the base
 abbrev pub IsChosenBy : List NodeView → List RuleView → ℕ → List Row → Type 0
 IsChosenBy nodes base d rows =
-    ChoosesRows (λ row state. gain_at nodes base d state row) (states_of nodes d) (rows_of nodes d) rows
+    ChoosesRows (gain_at nodes base d) (states_of nodes d) (rows_of nodes d) rows
 
 -- the rows chosen at d, against the base of d in s
 pub record IsChosenAt (nodes : List NodeView) (s : List RuleView) (d : ℕ) (rows : List Row) : Type 0

@@ -13,7 +13,7 @@ IsBest gain states choice = (s : ℕ) → s < states → gain s ≤ℤ gain choi
 -- these gains of a row, in their order, are that row's of all gains
 abbrev pub AreGainsOfRow : List ℤ → ℕ → ℕ → List ℤ → Type 0
 AreGainsOfRow gains states row here =
-    (s : ℕ) → s < states → slice_index_or here s (pos 0) ≡ gain_in gains states row s
+    (s : ℕ) → s < states → slice_index_or here s (pos 0) ≡ gain_in gains states s row
 
 -- each gain of the list is a number of 128 bits
 abbrev pub FitNumbers : List ℤ → Type 0
@@ -41,14 +41,14 @@ AnswersGains gains mass scale r =
 -- the row is so answered by its gains in the list
 abbrev pub AnswersInList : List ℤ → List ℕ → ℕ → ℕ → ℕ → Row → Type 0
 AnswersInList gains masses states scale row r =
-    AnswersRow (gain_in gains states row) states (slice_index masses row) scale r
+    AnswersRow (λ s. gain_in gains states s row) states (slice_index masses row) scale r
 
 -- so many rows, each answered by its own gains and mass, with choices in range and worths in lowest terms
 pub record AnswersRows
     (gain : ℕ → ℕ → ℤ) (mass : ℕ → ℕ) (states scale number : ℕ) (rows : List Row) : Type 0 where
   pub count : length rows ≡ number
   pub each : (row : ℕ) → row < number
-      → AnswersRow (gain row) states (mass row) scale (slice_index_or rows row no_row)
+      → AnswersRow (λ s. gain s row) states (mass row) scale (slice_index_or rows row no_row)
   pub choices : All (λ r. r.choice < states) rows
   pub worths : All (λ r. IfSome r.worth IsReduced) rows
 

@@ -35,7 +35,7 @@ pub record IsRowSums
     pub gain_count : HasGainForEach nodes d gains
     pub mass_count : length masses ≡ rows_of nodes d
     pub gain : (state row : ℕ) → state < states_of nodes d → row < rows_of nodes d
-        → gain_in gains (states_of nodes d) row state ≡ scope_gain nodes p d state row
+        → gain_in gains (states_of nodes d) state row ≡ scope_gain nodes p d state row
     pub mass_there :
         (row : ℕ) → row < rows_of nodes d → pos (slice_index masses row) ≡ scope_mass nodes p d row
 
@@ -48,7 +48,7 @@ pub record IsRowGains (nodes : List NodeView) (p : List RuleView) (d : ℕ) (gai
   where
     pub gain_count : HasGainForEach nodes d gains
     pub gain : (state row : ℕ) → state < states_of nodes d → row < rows_of nodes d
-        → gain_in gains (states_of nodes d) row state ≡ scope_gain nodes p d state row
+        → gain_in gains (states_of nodes d) state row ≡ scope_gain nodes p d state row
 
 -- so the program has the gains
 abbrev pub AreRowGains : List NodeView → List RuleView → ℕ → Vec ℤ → Type 0

@@ -53,7 +53,7 @@ fn choice_at(gains: &[i128], rows: usize, states: usize, row: usize) -> usize
     requires some { 0 < states }
     requires row { row < rows }
     ensures within { result < states }
-    ensures best { IsBest (gain_in gains.now states row) states result }
+    ensures best { IsBest (λ s. gain_in gains.now states s row) states result }
 {
     let start = row * states;
     first_best(&gains[start..start + states])

@@ -78,18 +78,18 @@ natural : (z : ℤ) → pos 0 ≤ℤ z → (n : ℕ) × (z ≡ pos n)
 natural (pos n) h = (n, refl)
 natural (negsuc n) h = absurd (omega (arith, ints))
 
-module _ (nodes : List NodeView) (s : List RuleView) (place : Place) (g : IsGraph nodes) (c : HasChanceTables nodes) (is : IsPlace nodes place.node place.row place.state) (less more : Ratio) (law : IsSpan nodes s place.node place.row place.state less more) where
+module _ (nodes : List NodeView) (s : List RuleView) (place : Place) (g : IsGraph nodes) (c : HasChanceTables nodes) (is : IsPlace nodes place.node place.state place.row) (less more : Ratio) (law : IsSpan nodes s place.node place.state place.row less more) where
   abbrev whole : ℕ
   whole = chance_total nodes place.node
 
-  cell : (n : ℕ) × (state_weight nodes place.node place.row place.state ≡ pos n)
-  cell = natural (state_weight nodes place.node place.row place.state) ((c.table place.node is.kind).not_negative (place.row * states_of nodes place.node + place.state))
+  cell : (n : ℕ) × (state_weight nodes place.node place.state place.row ≡ pos n)
+  cell = natural (state_weight nodes place.node place.state place.row) ((c.table place.node is.kind).not_negative (place.row * states_of nodes place.node + place.state))
 
   whole_above : 0 < chance_total nodes place.node
   whole_above = c.positive place.node is.kind
 
   cell_few : cell.0 ≤ chance_total nodes place.node
-  cell_few = few (state_weight nodes place.node place.row place.state) cell.0 (chance_total nodes place.node) cell.1 is.others
+  cell_few = few (state_weight nodes place.node place.state place.row) cell.0 (chance_total nodes place.node) cell.1 is.others
     where
       few : (z : ℤ) (n m : ℕ) → z ≡ pos n → pos 0 <ℤ (pos m -ℤ z) → n ≤ m
       few z n m e h = omega (arith, ints)
@@ -114,7 +114,7 @@ module _ (nodes : List NodeView) (s : List RuleView) (place : Place) (g : IsGrap
     not_inside num den p q (inr o) all =
         clash (held.high.num * den) (num * held.high.den) (below_back high held.high.num held.high.den fh.reduced.positive r.high.positive fh.same num den o) ((h.within num den p q).1 all).1
 
-    pub span_is : IsSpan nodes s place.node place.row place.state low high
+    pub span_is : IsSpan nodes s place.node place.state place.row low high
     span_is = record {
       low_reduced = fl.reduced;
       high_reduced = fh.reduced;
@@ -133,7 +133,7 @@ module _ (nodes : List NodeView) (s : List RuleView) (place : Place) (g : IsGrap
         ones : (a b : ℕ) → a ≤ b → a * 1 ≤ 1 * b
         ones a b l = omega arith
 
-        go : (num den : ℕ) (moved : List NodeView) → 0 < den → num ≤ den → IsMoved nodes place.node place.row place.state num den moved → IsAbove low (pos num) den ⊎ IsBelow high (pos num) den
+        go : (num den : ℕ) (moved : List NodeView) → 0 < den → num ≤ den → IsMoved nodes place.node place.state place.row num den moved → IsAbove low (pos num) den ⊎ IsBelow high (pos num) den
             → IsAtMost less (pos num) den ⊎ IsAbove less (pos num) den → IsAtLeast more (pos num) den ⊎ IsBelow more (pos num) den → IsBeaten nodes s moved
         go num den moved p q mv o (inr a) m = law.fails num den moved p q mv (inl a)
         go num den moved p q mv o (inl l) (inr b) = law.fails num den moved p q mv (inr b)

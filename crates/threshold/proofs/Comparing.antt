@@ -84,9 +84,9 @@ leads a b p q num den = (
     down x y h = omega (arith, ints)
 
 -- ---- one of the ends
-module _ (d : DiagramView) (place : Place) (is : IsDiagram d) (at : IsPlace d.nodes place.node place.row place.state) (num whole : ℕ) (e : DiagramView) (h : IsEnd d place num whole e) (t : ℕ) (k : IsDecision d.nodes t) where
+module _ (d : DiagramView) (place : Place) (is : IsDiagram d) (at : IsPlace d.nodes place.node place.state place.row) (num whole : ℕ) (e : DiagramView) (h : IsEnd d place num whole e) (t : ℕ) (k : IsDecision d.nodes t) where
   pub end_like : IsLike d.nodes e.nodes
-  end_like = like_of d.nodes e.nodes place.node place.row place.state num 1 at h.moved
+  end_like = like_of d.nodes e.nodes place.node place.state place.row num 1 at h.moved
 
   pub end_graph : IsGraph e.nodes
   end_graph = graph_there d.nodes e.nodes end_like is.graph
@@ -99,17 +99,17 @@ module _ (d : DiagramView) (place : Place) (is : IsDiagram d) (at : IsPlace d.no
 
   -- the whole diagram's gain is the part's, times the totals left out
   end_gain : (base : List RuleView) → IsProfile d.nodes base → (gains : List ℤ) → IsRowGains e.nodes base t gains → (line s : ℕ) → line < rows_of d.nodes t → s < states_of d.nodes t
-      → gain_at e.nodes base t s line ≡ pos (mass_left_out e.nodes base (scope_of e.nodes t)) *ℤ gain_in gains (states_of d.nodes t) line s
+      → gain_at e.nodes base t s line ≡ pos (mass_left_out e.nodes base (scope_of e.nodes t)) *ℤ gain_in gains (states_of d.nodes t) s line
   end_gain base b gains sums line s l m =
       let scope = scopes_law e.nodes t end_graph end_decision in
       let there = sums.gain s line (subst (λ n. s < n) (sym (end_like.states t)) m) (subst (λ n. line < n) (sym (rows_like d.nodes e.nodes end_like t)) l) in
       gains_law e.nodes base (scope_of e.nodes t) t s line end_graph h.moved.tables (end_profile base b) scope.0 end_decision scope.2 scope.3
-      ∙ ap (λ z. pos (mass_left_out e.nodes base (scope_of e.nodes t)) *ℤ z) (sym there ∙ ap (λ n. gain_in gains n line s) (end_like.states t))
+      ∙ ap (λ z. pos (mass_left_out e.nodes base (scope_of e.nodes t)) *ℤ z) (sym there ∙ ap (λ n. gain_in gains n s line) (end_like.states t))
 
 -- ---- both
 module _ (d : DiagramView) (place : Place) (is : IsDiagram d) (cell : IsCell d.nodes place) (nought one : DiagramView) (ends : AreEnds d place nought one) (t : ℕ) (k : IsDecision d.nodes t) (base : List RuleView) (b : IsProfile d.nodes base)
     (gains_nought gains_one : List ℤ) (sums_nought : IsRowGains nought.nodes base t gains_nought) (sums_one : IsRowGains one.nodes base t gains_one) where
-  pub at_place : IsPlace d.nodes place.node place.row place.state
+  pub at_place : IsPlace d.nodes place.node place.state place.row
   at_place = is_place d.nodes place is.tables cell ends.some
 
   same : HasSameBounds nought one
@@ -131,9 +131,9 @@ module _ (d : DiagramView) (place : Place) (is : IsDiagram d) (cell : IsCell d.n
   total_same = ends.at_nought.total ∙ sym ends.at_one.total
 
   abbrev number : ℕ → ℕ → ℕ → ℕ → ℤ
-  number line s num den = between (gain_in gains_nought (states_of d.nodes t) line s) (gain_in gains_one (states_of d.nodes t) line s) num den
+  number line s num den = between (gain_in gains_nought (states_of d.nodes t) s line) (gain_in gains_one (states_of d.nodes t) s line) num den
 
-  module _ (num den : ℕ) (hd : 0 < den) (moved : List NodeView) (m : IsMoved d.nodes place.node place.row place.state num den moved) where
+  module _ (num den : ℕ) (hd : 0 < den) (moved : List NodeView) (m : IsMoved d.nodes place.node place.state place.row num den moved) where
     abbrev scale : ℤ
     scale = pos den *ℤ pos (chance_total one.nodes place.node)
 
@@ -149,15 +149,15 @@ module _ (d : DiagramView) (place : Place) (is : IsDiagram d) (cell : IsCell d.n
     -- a gain at the fraction is in proportion to the number between
     in_proportion : (line s : ℕ) → line < rows_of d.nodes t → s < states_of d.nodes t → gain_at moved base t s line *ℤ scale ≡ factor *ℤ number line s num den
     in_proportion line s l n =
-        interpolate_law d.nodes base t s line place.node place.row place.state num den nought.nodes one.nodes moved is.graph is.tables k at_place ends.at_nought.moved ends.at_one.moved total_same m
+        interpolate_law d.nodes base t s line place.node place.state place.row num den nought.nodes one.nodes moved is.graph is.tables k at_place ends.at_nought.moved ends.at_one.moved total_same m
         ∙ (λ i. pos (chance_total moved place.node) *ℤ ((there_one i *ℤ pos num) +ℤ (there_nought i *ℤ (pos den -ℤ pos num))))
-        ∙ gather (pos (chance_total moved place.node)) (pos left) (gain_in gains_one (states_of d.nodes t) line s) (gain_in gains_nought (states_of d.nodes t) line s) (pos num) (pos den -ℤ pos num)
+        ∙ gather (pos (chance_total moved place.node)) (pos left) (gain_in gains_one (states_of d.nodes t) s line) (gain_in gains_nought (states_of d.nodes t) s line) (pos num) (pos den -ℤ pos num)
       where
-        there_nought : gain_at nought.nodes base t s line ≡ pos (mass_left_out nought.nodes base (scope_of nought.nodes t)) *ℤ gain_in gains_nought (states_of d.nodes t) line s
+        there_nought : gain_at nought.nodes base t s line ≡ pos (mass_left_out nought.nodes base (scope_of nought.nodes t)) *ℤ gain_in gains_nought (states_of d.nodes t) s line
         there_nought = end_gain d place is at_place 0 ends.total nought ends.at_nought t k base b gains_nought sums_nought line s l n
 
-        there_one : gain_at one.nodes base t s line ≡ pos (mass_left_out nought.nodes base (scope_of nought.nodes t)) *ℤ gain_in gains_one (states_of d.nodes t) line s
-        there_one = end_gain d place is at_place 1 ends.total one ends.at_one t k base b gains_one sums_one line s l n ∙ ap (λ c. pos c *ℤ gain_in gains_one (states_of d.nodes t) line s) left_same
+        there_one : gain_at one.nodes base t s line ≡ pos (mass_left_out nought.nodes base (scope_of nought.nodes t)) *ℤ gain_in gains_one (states_of d.nodes t) s line
+        there_one = end_gain d place is at_place 1 ends.total one ends.at_one t k base b gains_one sums_one line s l n ∙ ap (λ c. pos c *ℤ gain_in gains_one (states_of d.nodes t) s line) left_same
 
         gather : (u c o z n r : ℤ) → u *ℤ (((c *ℤ o) *ℤ n) +ℤ ((c *ℤ z) *ℤ r)) ≡ (u *ℤ c) *ℤ ((o *ℤ n) +ℤ (z *ℤ r))
         gather u c o z n r = ap (λ y. u *ℤ y) ((λ i. regroup c o n i +ℤ regroup c z r i) ∙ sym (mul_add c (o *ℤ n) (z *ℤ r))) ∙ split u c ((o *ℤ n) +ℤ (z *ℤ r))
@@ -171,8 +171,8 @@ module _ (d : DiagramView) (place : Place) (is : IsDiagram d) (cell : IsCell d.n
     -- a state gains no more than another exactly where the condition holds
     pub no_more : (line choice other : ℕ) → line < rows_of d.nodes t → choice < states_of d.nodes t → other < states_of d.nodes t
         → (gain_at moved base t other line ≤ℤ gain_at moved base t choice line)
-        ↔ IsNotBelow (gain_in gains_nought (states_of d.nodes t) line choice -ℤ gain_in gains_nought (states_of d.nodes t) line other) (gain_in gains_one (states_of d.nodes t) line choice -ℤ gain_in gains_one (states_of d.nodes t) line other) num den
+        ↔ IsNotBelow (gain_in gains_nought (states_of d.nodes t) choice line -ℤ gain_in gains_nought (states_of d.nodes t) other line) (gain_in gains_one (states_of d.nodes t) choice line -ℤ gain_in gains_one (states_of d.nodes t) other line) num den
     no_more line choice other l m n =
         let o = order_both (gain_at moved base t other line) (gain_at moved base t choice line) (number line other num den) (number line choice num den) scale factor scale_above factor_above (in_proportion line other l n) (in_proportion line choice l m) in
-        let e = leads (gain_in gains_nought (states_of d.nodes t) line choice) (gain_in gains_nought (states_of d.nodes t) line other) (gain_in gains_one (states_of d.nodes t) line choice) (gain_in gains_one (states_of d.nodes t) line other) num den in
+        let e = leads (gain_in gains_nought (states_of d.nodes t) choice line) (gain_in gains_nought (states_of d.nodes t) other line) (gain_in gains_one (states_of d.nodes t) choice line) (gain_in gains_one (states_of d.nodes t) other line) num den in
         ((λ h. e.0 (o.0 h)), (λ h. o.1 (e.1 h)))

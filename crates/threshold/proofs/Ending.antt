@@ -27,7 +27,7 @@ use Rattle.threshold.proofs.Tables.{is_place, one_at_most}
 
 -- the diagram with the new table is one with the probability moved, of that total, and its weights are small enough
 pub record Moves (d : DiagramView) (place : Place) (scales : Scales) (num whole : ℕ) : Type 0 where
-  pub moved : IsMoved d.nodes place.node place.row place.state num 1 (rewritten d.nodes place scales)
+  pub moved : IsMoved d.nodes place.node place.state place.row num 1 (rewritten d.nodes place scales)
   pub total : chance_total (rewritten d.nodes place scales) place.node ≡ whole
   pub fits : KeepsRange d.nodes place scales
   pub kept : IsDiagram (with_nodes d (rewritten d.nodes place scales))
@@ -35,7 +35,7 @@ pub record Moves (d : DiagramView) (place : Place) (scales : Scales) (num whole 
 pub end_of : (d : DiagramView) (place : Place) (scales : Scales) (num whole : ℕ) (e : DiagramView) → e ≡ with_nodes d (rewritten d.nodes place scales) → Moves d place scales num whole → IsEnd d place num whole e
 end_of d place scales num whole e is m = subst (IsEnd d place num whole) (sym is) (record { moved = m.moved; total = m.total; agents = refl; decimals = refl })
 
-module _ (d : DiagramView) (place : Place) (h : IsDiagram d) (p : IsCell d.nodes place) (others : pos 0 <ℤ others_weight d.nodes place.node place.row place.state) (num : ℕ) (hn : num ≤ 1) (left : ℕ) (left_is : pos left ≡ others_weight d.nodes place.node place.row place.state)
+module _ (d : DiagramView) (place : Place) (h : IsDiagram d) (p : IsCell d.nodes place) (others : pos 0 <ℤ others_weight d.nodes place.node place.state place.row) (num : ℕ) (hn : num ≤ 1) (left : ℕ) (left_is : pos left ≡ others_weight d.nodes place.node place.state place.row)
     (whole times given each : ℕ) (ht : 0 < whole) (small : whole ≤ greatest_number) (times_is : chance_total d.nodes place.node * times ≡ whole) (given_is : given * 1 ≡ num * whole) (each_is : each * (1 * left) ≡ (1 - num) * whole) where
   abbrev nodes : List NodeView
   nodes = d.nodes
@@ -46,23 +46,23 @@ module _ (d : DiagramView) (place : Place) (h : IsDiagram d) (p : IsCell d.nodes
   abbrev scales : Scales
   scales = record { times = times; given = given; each = each }
 
-  is : IsPlace nodes x place.row place.state
+  is : IsPlace nodes x place.state place.row
   is = is_place nodes place h.tables p others
 
   one : 0 < 1
   one = omega arith
 
   abbrev new : List NodeView
-  new = moving.moved nodes x place.row place.state num 1 h.graph h.tables is hn one left left_is whole times given each ht times_is given_is each_is
+  new = moving.moved nodes x place.state place.row num 1 h.graph h.tables is hn one left left_is whole times given each ht times_is given_is each_is
 
   same : new ≡ rewritten nodes place scales
-  same = λ i. slice_set nodes x (record { kind = sym is.kind i; owner = (node_at nodes x).owner; more = (node_at nodes x).more; states = (node_at nodes x).states; parents = (node_at nodes x).parents; cells = map pos (map (λ c. new_weight nodes place scales (c / states_of nodes x) (c % states_of nodes x)) (range_with_len 0 (rows_of nodes x * states_of nodes x))) })
+  same = λ i. slice_set nodes x (record { kind = sym is.kind i; owner = (node_at nodes x).owner; more = (node_at nodes x).more; states = (node_at nodes x).states; parents = (node_at nodes x).parents; cells = map pos (map (λ c. new_weight nodes place scales (c % states_of nodes x) (c / states_of nodes x)) (range_with_len 0 (rows_of nodes x * states_of nodes x))) })
 
-  moved : IsMoved nodes x place.row place.state num 1 (rewritten nodes place scales)
-  moved = subst (IsMoved nodes x place.row place.state num 1) same (moving.is_moved nodes x place.row place.state num 1 h.graph h.tables is hn one left left_is whole times given each ht times_is given_is each_is)
+  moved : IsMoved nodes x place.state place.row num 1 (rewritten nodes place scales)
+  moved = subst (IsMoved nodes x place.state place.row num 1) same (moving.is_moved nodes x place.state place.row num 1 h.graph h.tables is hn one left left_is whole times given each ht times_is given_is each_is)
 
   total : chance_total (rewritten nodes place scales) x ≡ whole
-  total = ap (λ ns. chance_total ns x) (sym same) ∙ moving.total_is nodes x place.row place.state num 1 h.graph h.tables is hn one left left_is whole times given each ht times_is given_is each_is
+  total = ap (λ ns. chance_total ns x) (sym same) ∙ moving.total_is nodes x place.state place.row num 1 h.graph h.tables is hn one left left_is whole times given each ht times_is given_is each_is
 
   within : x < length nodes
   within = kind_within nodes x (λ e. clash (sym p.kind ∙ e))
@@ -70,30 +70,30 @@ module _ (d : DiagramView) (place : Place) (h : IsDiagram d) (p : IsCell d.nodes
       clash : Chance ≡ Utility → ⊥
       clash e = cc
 
-  cells_are : (node_at (rewritten nodes place scales) x).cells ≡ map pos (map (λ c. new_weight nodes place scales (c / states_of nodes x) (c % states_of nodes x)) (range_with_len 0 (rows_of nodes x * states_of nodes x)))
+  cells_are : (node_at (rewritten nodes place scales) x).cells ≡ map pos (map (λ c. new_weight nodes place scales (c % states_of nodes x) (c / states_of nodes x)) (range_with_len 0 (rows_of nodes x * states_of nodes x)))
   cells_are = ap (λ (n : NodeView). n.cells) (set_at nodes x _ within)
 
   fits : KeepsRange nodes place scales
-  fits r s l m =
+  fits s r m l =
       let others = rewritten nodes place scales in
       let t = moved.tables.table x (ap (λ (n : NodeView). n.kind) moved.at) in
       let states : states_of others x ≡ states_of nodes x = ap (λ (n : NodeView). n.states) moved.at in
-      let at : state_weight others x r s ≡ pos (new_weight nodes place scales r s) =
-      (λ i. slice_index_or (cells_are i) (r * states i + s) (pos 0)) ∙ at_pos (map (λ c. new_weight nodes place scales (c / states_of nodes x) (c % states_of nodes x)) (range_with_len 0 (rows_of nodes x * states_of nodes x))) (r * states_of nodes x + s)
-      ∙ ap pos (weights_by-at (rows_of nodes x) (states_of nodes x) (new_weight nodes place scales) r s l m) in
-      let sum = t.row r (subst (λ n. r < n) (sym (rows_like nodes others (like d x place.row place.state num 1 others h is moved) x)) l) in
-      let most = one_at_most (state_weight others x r) (λ i. t.not_negative (r * states_of others x + i)) (states_of others x) s (subst (λ n. s < n) (sym states) m) in
-      nat (new_weight nodes place scales r s) whole greatest_number (subst (λ z. z ≤ℤ pos whole) at (subst (λ z. state_weight others x r s ≤ℤ z) (sum ∙ ap pos total) most)) small
+      let at : state_weight others x s r ≡ pos (new_weight nodes place scales s r) =
+      (λ i. slice_index_or (cells_are i) (r * states i + s) (pos 0)) ∙ at_pos (map (λ c. new_weight nodes place scales (c % states_of nodes x) (c / states_of nodes x)) (range_with_len 0 (rows_of nodes x * states_of nodes x))) (r * states_of nodes x + s)
+      ∙ ap pos (weights_by-at (rows_of nodes x) (states_of nodes x) (λ r s. new_weight nodes place scales s r) r s l m) in
+      let sum = t.row r (subst (λ n. r < n) (sym (rows_like nodes others (like d x place.state place.row num 1 others h is moved) x)) l) in
+      let most = one_at_most (λ s. state_weight others x s r) (λ i. t.not_negative (r * states_of others x + i)) (states_of others x) s (subst (λ n. s < n) (sym states) m) in
+      nat (new_weight nodes place scales s r) whole greatest_number (subst (λ z. z ≤ℤ pos whole) at (subst (λ z. state_weight others x s r ≤ℤ z) (sum ∙ ap pos total) most)) small
     where
       nat : (a b c : ℕ) → pos a ≤ℤ pos b → b ≤ c → a ≤ c
       nat a b c h k = omega (arith, ints)
 
   pub moves : Moves d place (record { times = times; given = given; each = each }) num whole
-  moves = record { moved = moved; total = total; fits = fits; kept = moved_kept d x place.row place.state num 1 (rewritten nodes place scales) h is moved (subst (λ n. n ≤ greatest_number) (sym total) small) }
+  moves = record { moved = moved; total = total; fits = fits; kept = moved_kept d x place.state place.row num 1 (rewritten nodes place scales) h is moved (subst (λ n. n ≤ greatest_number) (sym total) small) }
 
 -- ---- both ends
 module _ (d : DiagramView) (place : Place) (h : IsDiagram d) (p : IsCell d.nodes place) (totals : Totals) (t : AreTotals d.nodes place totals) where
-  others : pos 0 <ℤ others_weight d.nodes place.node place.row place.state
+  others : pos 0 <ℤ others_weight d.nodes place.node place.state place.row
   others = subst (λ z. pos 0 <ℤ z) t.others (some totals.others t.some)
     where
       some : (n : ℕ) → 0 < n → pos 0 <ℤ pos n
@@ -102,7 +102,7 @@ module _ (d : DiagramView) (place : Place) (h : IsDiagram d) (p : IsCell d.nodes
   times_is : chance_total d.nodes place.node * (totals.common / totals.table) ≡ totals.common
   times_is = ap (λ n. n * (totals.common / totals.table)) (sym t.table) ∙ mul-div_cancel' totals.table (subst (λ n. n ∣ totals.common) (sym t.table) t.common.0)
 
-  left_abs : nat_abs (others_weight d.nodes place.node place.row place.state) ≡ totals.others
+  left_abs : nat_abs (others_weight d.nodes place.node place.state place.row) ≡ totals.others
   left_abs = ap nat_abs (sym t.others)
 
   shares_is : totals.common / totals.others * totals.others ≡ totals.common

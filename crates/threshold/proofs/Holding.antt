@@ -74,7 +74,7 @@ module _ (d : DiagramView) (solved : SolvedView) (place : Place) (is : IsDiagram
   weights : (line choice : ℕ) → line < rows_of d.nodes answer.decision → choice < states_of d.nodes answer.decision
       → (slice_index (weights_of (answered d solved) answer.decision) (line * states_of d.nodes answer.decision + choice) ≡ 1) ↔ (choice ≡ choice_at answer.rows line)
   weights line choice l m =
-      let w = (weights_law d.nodes solved.answers (answers_fit d solved is.graph is.tables f)).1 answer.decision line choice k l m in
+      let w = (weights_law d.nodes solved.answers (answers_fit d solved is.graph is.tables f)).1 answer.decision choice line k m l in
       ((λ e. w.0 e ∙ chosen line choice l m), (λ e. w.1 (e ∙ sym (chosen line choice l m))))
 
   module _ (num den : ℕ) (hd : 0 < den) (hn : num ≤ den) where
@@ -82,7 +82,7 @@ module _ (d : DiagramView) (solved : SolvedView) (place : Place) (is : IsDiagram
     there h moved m = record {
       base = base;
       is_base = b;
-      best = λ line choice other l i j w.
+      best = λ choice other line i j l w.
           let e = (weights line choice l i).0 w in
           subst (λ z. gain_at moved base answer.decision other line ≤ℤ gain_at moved base answer.decision z line) (sym e)
           ((no_more d place is cell nought one ends answer.decision k base b.profile gains_nought gains_one sums_nought sums_one num den hd moved m line (choice_at answer.rows line) other l (inside line l) j).1
@@ -93,13 +93,13 @@ module _ (d : DiagramView) (solved : SolvedView) (place : Place) (is : IsDiagram
     back h line low other j =
         let l = subst (λ n. line < n) rows low in
         let at = at_place d place is cell nought one ends answer.decision k base b.profile gains_nought gains_one sums_nought sums_one in
-        let moved = moved_law d.nodes place.node place.row place.state num den is.graph is.tables at hd hn in
+        let moved = moved_law d.nodes place.node place.state place.row num den is.graph is.tables at hd hn in
         let there = h moved.0 moved.1 in
-        let alike = gains_alike d.nodes moved.0 (like_of d.nodes moved.0 place.node place.row place.state num den at moved.1) (answered d solved) answer.decision there.base base there.is_base b in
+        let alike = gains_alike d.nodes moved.0 (like_of d.nodes moved.0 place.node place.state place.row num den at moved.1) (answered d solved) answer.decision there.base base there.is_base b in
         (no_more d place is cell nought one ends answer.decision k base b.profile gains_nought gains_one sums_nought sums_one num den hd moved.0 moved.1 line (choice_at answer.rows line) other l (inside line l) j).0
         (subst (λ z. z ≤ℤ gain_at moved.0 base answer.decision (choice_at answer.rows line) line) (alike other line)
         (subst (λ z. gain_at moved.0 there.base answer.decision other line ≤ℤ z) (alike (choice_at answer.rows line) line)
-        (there.best line (choice_at answer.rows line) other l (inside line l) j ((weights line (choice_at answer.rows line) l (inside line l)).1 refl))))
+        (there.best (choice_at answer.rows line) other line (inside line l) j l ((weights line (choice_at answer.rows line) l (inside line l)).1 refl))))
 
     pub holds_same : AreBestIn gains_nought gains_one (states_of d.nodes answer.decision) answer.rows (length answer.rows) num den ↔ HoldsAtFraction d.nodes (answered d solved) place answer.decision num den
     holds_same = (there, back)

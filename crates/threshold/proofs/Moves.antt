@@ -22,12 +22,12 @@ not_chance e = cc
 not_decision : Chance ≡ Decision → ⊥
 not_decision e = cc
 
-module _ (d : DiagramView) (x row state num den : ℕ) (moved : List NodeView) (h : IsDiagram d) (place : IsPlace d.nodes x row state) (m : IsMoved d.nodes x row state num den moved) where
+module _ (d : DiagramView) (x state row num den : ℕ) (moved : List NodeView) (h : IsDiagram d) (place : IsPlace d.nodes x state row) (m : IsMoved d.nodes x state row num den moved) where
   abbrev nodes : List NodeView
   nodes = d.nodes
 
   pub like : IsLike nodes moved
-  like = like_of nodes moved x row state num den place m
+  like = like_of nodes moved x state row num den place m
 
   -- a node of another kind than chance is as it was
   apart_of_utility : (v : ℕ) → (node_at moved v).kind ≡ Utility → v ≢ x

@@ -65,7 +65,7 @@ module _ (d : DiagramView) (solved : SolvedView) (place : Place) (nought one : D
   k : IsDecision d.nodes answer.decision
   k = answer_decides d solved set.answer.fits answer of
 
-  at : IsPlace d.nodes place.node place.row place.state
+  at : IsPlace d.nodes place.node place.state place.row
   at = is_place d.nodes place set.is_diagram.tables set.cell set.ends.some
 
   pub profile_nought : (base : List RuleView) → IsProfile d.nodes base → IsProfile nought.nodes base

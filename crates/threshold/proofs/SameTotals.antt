@@ -61,8 +61,8 @@ redone_same d x whole a b chance ha hb = record {
     apart v k e = clash (sym chance ∙ ap (λ u. (node_at d.nodes u).kind) (sym e) ∙ sym (ha.like.kinds v) ∙ k)
 
 -- either end is one
-pub end_redone : (d : DiagramView) (place : Place) (num whole : ℕ) (e : DiagramView) → IsPlace d.nodes place.node place.row place.state → IsEnd d place num whole e → Redone d place.node whole e
-end_redone d place num whole e is h = record { like = like_of d.nodes e.nodes place.node place.row place.state num 1 is h.moved; else = h.moved.else; total = h.total; agents = h.agents; decimals = h.decimals }
+pub end_redone : (d : DiagramView) (place : Place) (num whole : ℕ) (e : DiagramView) → IsPlace d.nodes place.node place.state place.row → IsEnd d place num whole e → Redone d place.node whole e
+end_redone d place num whole e is h = record { like = like_of d.nodes e.nodes place.node place.state place.row num 1 is h.moved; else = h.moved.else; total = h.total; agents = h.agents; decimals = h.decimals }
 
 -- ---- the diagram over another total
 at_map : (k : ℕ) (cells : List ℤ) (i : ℕ) → slice_index_or (map (λ w. w *ℤ pos k) cells) i (pos 0) ≡ pos k *ℤ slice_index_or cells i (pos 0)
@@ -123,7 +123,7 @@ module _ (d : DiagramView) (x whole : ℕ) (g : IsGraph d.nodes) (c : HasChanceT
 
 -- ---- refusals
 module _ (d : DiagramView) (place : Place) (h : IsDiagram d) (p : IsCell d.nodes place) (totals : Totals) (t : AreTotals d.nodes place totals) (nought : DiagramView) (e : IsEnd d place 0 totals.common nought) where
-  some : pos 0 <ℤ others_weight d.nodes place.node place.row place.state
+  some : pos 0 <ℤ others_weight d.nodes place.node place.state place.row
   some = subst (λ z. pos 0 <ℤ z) t.others (above totals.others t.some)
     where
       above : (n : ℕ) → 0 < n → pos 0 <ℤ pos n
@@ -132,8 +132,8 @@ module _ (d : DiagramView) (place : Place) (h : IsDiagram d) (p : IsCell d.nodes
   same : HasSameBounds nought (with_total d place.node totals.common)
   same = redone_same d place.node totals.common nought (with_total d place.node totals.common) p.kind (end_redone d place 0 totals.common nought (is_place d.nodes place h.tables p some) e) (total_redone d place.node totals.common h.graph h.tables p.kind t.common.0)
 
-  not_nought : OthersWeighNought d.nodes place.node place.row place.state → ⊥
-  not_nought none = nothing (others_weight d.nodes place.node place.row place.state) (pos (chance_total d.nodes place.node)) _ (all_weight d.nodes place h.tables p none) refl some
+  not_nought : OthersWeighNought d.nodes place.node place.state place.row → ⊥
+  not_nought none = nothing (others_weight d.nodes place.node place.state place.row) (pos (chance_total d.nodes place.node)) _ (all_weight d.nodes place h.tables p none) refl some
     where
       nothing : (o w z : ℤ) → z ≡ w → o ≡ w -ℤ z → pos 0 <ℤ o → ⊥
       nothing o w z e f l = omega (arith, ints)
@@ -141,7 +141,7 @@ module _ (d : DiagramView) (place : Place) (h : IsDiagram d) (p : IsCell d.nodes
   not_wide : greatest_number < totals.common → ⊥
   not_wide l = let m = t.small in omega arith
 
-  scoped : (f : FaultView) → scoped_pass nought (Some f) → span_pass d place.node place.row place.state (Some f)
+  scoped : (f : FaultView) → scoped_pass nought (Some f) → span_pass d place.node place.state place.row (Some f)
   scoped f s = inr (not_nought, (totals.common, t.common, inr (not_wide, there f s)))
     where
       there : (f : FaultView) → scoped_pass nought (Some f) → scoped_pass (with_total d place.node totals.common) (Some f)
@@ -149,12 +149,12 @@ module _ (d : DiagramView) (place : Place) (h : IsDiagram d) (p : IsCell d.nodes
       there (views.WeightBound (Some v)) s = passed_at nought (with_total d place.node totals.common) same v s
       there (views.WeightBound None) s = passed_by_utilities nought (with_total d place.node totals.common) same s
 
-  pub refused_there : (fault : SpanFault) → IsFaultOrNoMemory span_fault (scoped_pass nought) fault → IsFaultOrNoMemory span_fault (span_pass d place.node place.row place.state) fault
+  pub refused_there : (fault : SpanFault) → IsFaultOrNoMemory span_fault (scoped_pass nought) fault → IsFaultOrNoMemory span_fault (span_pass d place.node place.state place.row) fault
   refused_there faults.NoOthers s = absurd s
   refused_there (faults.WeightBound node) s = scoped (views.WeightBound node) s
   refused_there faults.NoMemory s = tt
 
-  pub passed_there : KeepsScopedBounds nought → span_pass d place.node place.row place.state None
+  pub passed_there : KeepsScopedBounds nought → span_pass d place.node place.state place.row None
   passed_there k = (not_nought, (totals.common, t.common, (not_wide, bounds_kept nought (with_total d place.node totals.common) same k)))
 
   pub ends_there : (one : DiagramView) → IsEnd d place 1 totals.common one → KeepsScopedBounds nought → AreEnds d place nought one
@@ -167,5 +167,5 @@ module _ (d : DiagramView) (place : Place) (h : IsDiagram d) (p : IsCell d.nodes
     bound_one = bounds_kept nought one (redone_same d place.node totals.common nought one p.kind (end_redone d place 0 totals.common nought is e) (end_redone d place 1 totals.common one is f)) k;
   }
     where
-      is : IsPlace d.nodes place.node place.row place.state
+      is : IsPlace d.nodes place.node place.state place.row
       is = is_place d.nodes place h.tables p some

@@ -37,8 +37,8 @@ sign (pos zero) h = inl refl
 sign (pos (suc n)) h = inr (omega (arith, ints))
 sign (negsuc n) h = absurd (omega (arith, ints))
 
-module _ (d : DiagramView) (solved : SolvedView) (place : Place) (is : IsDiagram d) (a : IsAnswer d solved) (at : IsPlace d.nodes place.node place.row place.state) (answer : AnswerView) (of : IsAnswerOf solved answer)
-    (agent : ℕ) (free : ReliesOn (as_decision d.nodes agent place.node) answer.decision place.node → ⊥) (reached : (pos 0 <ℤ state_weight d.nodes place.node place.row place.state) ⊎ (list_all (λ (row : Row). is_some row.worth) answer.rows ≡ true)) where
+module _ (d : DiagramView) (solved : SolvedView) (place : Place) (is : IsDiagram d) (a : IsAnswer d solved) (at : IsPlace d.nodes place.node place.state place.row) (answer : AnswerView) (of : IsAnswerOf solved answer)
+    (agent : ℕ) (free : ReliesOn (as_decision d.nodes agent place.node) answer.decision place.node → ⊥) (reached : (pos 0 <ℤ state_weight d.nodes place.node place.state place.row) ⊎ (list_all (λ (row : Row). is_some row.worth) answer.rows ≡ true)) where
   k : IsDecision d.nodes answer.decision
   k = answer_decides d solved a.fits answer of
 
@@ -49,14 +49,14 @@ module _ (d : DiagramView) (solved : SolvedView) (place : Place) (is : IsDiagram
   row_at line l = subst (λ rows. IsAnswerRow d.nodes d.decimals told.base answer.decision line (slice_index_or rows line no_row)) (answer_rows d solved a.fits answer of) (told.each line l)
 
   -- a state of weight 1 is the choice of the row
-  chosen : (line choice : ℕ) → line < rows_of d.nodes answer.decision → choice < states_of d.nodes answer.decision → weight_at d.nodes (answered d solved) answer.decision line choice ≡ 1
+  chosen : (line choice : ℕ) → line < rows_of d.nodes answer.decision → choice < states_of d.nodes answer.decision → weight_at d.nodes (answered d solved) answer.decision choice line ≡ 1
       → choice ≡ (slice_index_or answer.rows line no_row).choice
   chosen line choice l i w =
-      ((weights_law d.nodes solved.answers (answers_fit d solved is.graph is.tables a.fits)).1 answer.decision line choice k l i).0 w
+      ((weights_law d.nodes solved.answers (answers_fit d solved is.graph is.tables a.fits)).1 answer.decision choice line k i l).0 w
       ∙ ap (λ rows. (slice_index_or rows line no_row).choice) (answer_rows d solved a.fits answer of)
 
   -- where a row is not reached now, the state has weight
-  module _ (num den : ℕ) (positive : 0 < den) (moved : List NodeView) (m : IsMoved d.nodes place.node place.row place.state num den moved) where
+  module _ (num den : ℕ) (positive : 0 < den) (moved : List NodeView) (m : IsMoved d.nodes place.node place.state place.row num den moved) where
     best : (line choice other : ℕ) → line < rows_of d.nodes answer.decision → choice < states_of d.nodes answer.decision → other < states_of d.nodes answer.decision → choice ≡ (slice_index_or answer.rows line no_row).choice
         → gain_at moved told.base answer.decision other line ≤ℤ gain_at moved told.base answer.decision choice line
     best line choice other l i j e = go (sign (mass_at d.nodes told.base answer.decision line) (mass_at_least d.nodes told.base answer.decision line is.graph (tables_of d.nodes told.base is.graph is.tables told.is_base.profile) k.within))
@@ -69,21 +69,21 @@ module _ (d : DiagramView) (solved : SolvedView) (place : Place) (is : IsDiagram
 
         go : (mass_at d.nodes told.base answer.decision line ≡ pos 0) ⊎ (pos 0 <ℤ mass_at d.nodes told.base answer.decision line) → gain_at moved told.base answer.decision other line ≤ℤ gain_at moved told.base answer.decision choice line
         go (inr some) =
-            gains_no_more d.nodes place.node place.row place.state is.graph is.tables at num den moved m agent answer.decision k free told.base told.is_base.profile line choice other i j some
+            gains_no_more d.nodes place.node place.state place.row is.graph is.tables at num den moved m agent answer.decision k free told.base told.is_base.profile line choice other i j some
             (subst (λ z. gain_at d.nodes told.base answer.decision other line ≤ℤ gain_at d.nodes told.base answer.decision z line) (sym e) (((row_at line l).best some).greatest other j))
         go (inl none) = at_none reached
           where
-            at_none : (pos 0 <ℤ state_weight d.nodes place.node place.row place.state) ⊎ (list_all (λ (row : Row). is_some row.worth) answer.rows ≡ true) → gain_at moved told.base answer.decision other line ≤ℤ gain_at moved told.base answer.decision choice line
+            at_none : (pos 0 <ℤ state_weight d.nodes place.node place.state place.row) ⊎ (list_all (λ (row : Row). is_some row.worth) answer.rows ≡ true) → gain_at moved told.base answer.decision other line ≤ℤ gain_at moved told.base answer.decision choice line
             at_none (inl weighs) =
                 even (gain_at moved told.base answer.decision other line) (gain_at moved told.base answer.decision choice line)
-                (gains_nothing d.nodes place.node place.row place.state is.graph is.tables at num den moved m agent answer.decision k free told.base told.is_base.profile positive weighs line other none)
-                (gains_nothing d.nodes place.node place.row place.state is.graph is.tables at num den moved m agent answer.decision k free told.base told.is_base.profile positive weighs line choice none)
+                (gains_nothing d.nodes place.node place.state place.row is.graph is.tables at num den moved m agent answer.decision k free told.base told.is_base.profile positive weighs line other none)
+                (gains_nothing d.nodes place.node place.state place.row is.graph is.tables at num den moved m agent answer.decision k free told.base told.is_base.profile positive weighs line choice none)
             at_none (inr all) =
                 absurd (clash (sym all ∙ list_all_at (λ (row : Row). is_some row.worth) answer.rows line no_row (subst (λ n. line < n) (sym (answer_fits d solved a.fits answer of).rows) l) (ap is_some ((row_at line l).never none).1)))
 
   -- it holds at each fraction
   pub stays : (num den : ℕ) → 0 < den → HoldsAtFraction d.nodes (answered d solved) place answer.decision num den
-  stays num den positive moved m = record { base = told.base; is_base = told.is_base; best = λ line choice other l i j w. best num den positive moved m line choice other l i j (chosen line choice l i w) }
+  stays num den positive moved m = record { base = told.base; is_base = told.is_base; best = λ choice other line i j l w. best num den positive moved m line choice other l i j (chosen line choice l i w) }
 
 -- ---- in the names of the code
 free_of : (d : DiagramView) (x v : ℕ) (known : Option RelevanceView) → IsControlled d x known → IsFreeOf known v x → ReliesOn (as_decision d.nodes 0 x) v x → ⊥
@@ -91,7 +91,7 @@ free_of d x v None c f r = f
 free_of d x v (Some relevance) c f r = f ((c.pairs v x).1 r)
 
 module _ (q : Question) (asked : IsQuestion q) where
-  place_is : IsPlace q.diagram.now.nodes q.place.node q.place.row q.place.state
+  place_is : IsPlace q.diagram.now.nodes q.place.node q.place.state q.place.row
   place_is = is_place q.diagram.now.nodes q.place asked.setting.is_diagram.tables asked.setting.cell asked.setting.ends.some
 
   pub stands_holds : (answer : AnswerView) → IsAnswerOf q.solved.now answer → AnswerStands q answer → (num den : ℕ) → 0 < den → HoldsAnswer q answer num den

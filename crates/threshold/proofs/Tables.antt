@@ -71,37 +71,37 @@ module _ (nodes : List NodeView) (place : Place) (c : HasChanceTables nodes) (p 
   whole = chance_total nodes place.node
 
   weights : ℕ → ℤ
-  weights s = state_weight nodes x place.row s
+  weights s = state_weight nodes x s place.row
 
-  least : (r s : ℕ) → pos 0 ≤ℤ state_weight nodes x r s
+  least : (r s : ℕ) → pos 0 ≤ℤ state_weight nodes x s r
   least r s = (c.table x p.kind).not_negative (r * states_of nodes x + s)
 
-  sum_is : sum_below (states_of nodes x) (state_weight nodes x place.row) ≡ pos whole
+  sum_is : sum_below (states_of nodes x) (λ s. state_weight nodes x s place.row) ≡ pos whole
   sum_is = (c.table x p.kind).row place.row p.row
 
   -- the weight is no more than the total
-  pub weight_at_most : state_weight nodes x place.row place.state ≤ℤ pos whole
-  weight_at_most = subst (λ z. state_weight nodes x place.row place.state ≤ℤ z) sum_is (one_at_most (state_weight nodes x place.row) (least place.row) (states_of nodes x) place.state p.state)
+  pub weight_at_most : state_weight nodes x place.state place.row ≤ℤ pos whole
+  weight_at_most = subst (λ z. state_weight nodes x place.state place.row ≤ℤ z) sum_is (one_at_most (λ s. state_weight nodes x s place.row) (least place.row) (states_of nodes x) place.state p.state)
 
   -- where it is all the total, the others are nought
-  pub others_nought : state_weight nodes x place.row place.state ≡ pos whole → OthersWeighNought nodes x place.row place.state
+  pub others_nought : state_weight nodes x place.state place.row ≡ pos whole → OthersWeighNought nodes x place.state place.row
   others_nought e s l k =
-      let h = subst (λ z. (state_weight nodes x place.row s +ℤ state_weight nodes x place.row place.state) ≤ℤ z) sum_is (two_at_most (state_weight nodes x place.row) (least place.row) (states_of nodes x) s place.state l p.state k) in
-      nothing (state_weight nodes x place.row s) (state_weight nodes x place.row place.state) (pos whole) e h (least place.row s)
+      let h = subst (λ z. (state_weight nodes x s place.row +ℤ state_weight nodes x place.state place.row) ≤ℤ z) sum_is (two_at_most (λ s. state_weight nodes x s place.row) (least place.row) (states_of nodes x) s place.state l p.state k) in
+      nothing (state_weight nodes x s place.row) (state_weight nodes x place.state place.row) (pos whole) e h (least place.row s)
     where
       nothing : (y z w : ℤ) → z ≡ w → (y +ℤ z) ≤ℤ w → pos 0 ≤ℤ y → y ≡ pos 0
       nothing y z w e h l = omega (arith, ints)
 
   -- and only there
-  pub all_weight : OthersWeighNought nodes x place.row place.state → state_weight nodes x place.row place.state ≡ pos whole
-  all_weight none = sym (alone (states_of nodes x) place.state (state_weight nodes x place.row) p.state none) ∙ sum_is
+  pub all_weight : OthersWeighNought nodes x place.state place.row → state_weight nodes x place.state place.row ≡ pos whole
+  all_weight none = sym (alone (states_of nodes x) place.state (λ s. state_weight nodes x s place.row) p.state none) ∙ sum_is
 
-  pub is_place : pos 0 <ℤ others_weight nodes x place.row place.state → IsPlace nodes x place.row place.state
+  pub is_place : pos 0 <ℤ others_weight nodes x place.state place.row → IsPlace nodes x place.state place.row
   is_place h = record { kind = p.kind; row_within = p.row; state_within = p.state; others = h }
 
   -- what the others weigh
-  pub others_are : (w : ℕ) → pos w ≡ state_weight nodes x place.row place.state → w ≢ whole → (w < whole) × (pos (whole - w) ≡ others_weight nodes x place.row place.state)
-  others_are w e k = plain w whole (state_weight nodes x place.row place.state) e k weight_at_most
+  pub others_are : (w : ℕ) → pos w ≡ state_weight nodes x place.state place.row → w ≢ whole → (w < whole) × (pos (whole - w) ≡ others_weight nodes x place.state place.row)
+  others_are w e k = plain w whole (state_weight nodes x place.state place.row) e k weight_at_most
     where
       plain : (w n : ℕ) (z : ℤ) → pos w ≡ z → w ≢ n → z ≤ℤ pos n → (w < n) × (pos (n - w) ≡ pos n -ℤ z)
       plain w n z e k l = (omega (arith, ints), minus w n z e (omega (arith, ints)))
@@ -111,11 +111,11 @@ module _ (nodes : List NodeView) (place : Place) (c : HasChanceTables nodes) (p 
 
 -- ---- one cell more
 pub cells_more : (nodes : List NodeView) (place : Place) (scales : Scales) (r s : ℕ) (cells : List ℤ) (cell : ℤ) → s < states_of nodes place.node
-    → cells ≡ new_cells nodes place scales (r * states_of nodes place.node + s) → cell ≡ pos (new_weight nodes place scales r s)
+    → cells ≡ new_cells nodes place scales (r * states_of nodes place.node + s) → cell ≡ pos (new_weight nodes place scales s r)
     → cells ++ cell ∷ [] ≡ new_cells nodes place scales (r * states_of nodes place.node + s + 1)
 cells_more nodes place scales r s cells cell l e f =
     (λ i. e i ++ f i ∷ [])
-    ∙ ap (λ w. new_cells nodes place scales (r * n + s) ++ pos w ∷ []) (λ i. new_weight nodes place scales (sym (div-mul-add r n s l) i) (sym (mod-mul-add r n s l) i))
+    ∙ ap (λ w. new_cells nodes place scales (r * n + s) ++ pos w ∷ []) (λ i. new_weight nodes place scales (sym (mod-mul-add r n s l) i) (sym (div-mul-add r n s l) i))
     ∙ sym (map-append pos (map at (range_with_len 0 (r * n + s))) (at (r * n + s) ∷ []))
     ∙ ap (map pos) (sym (map-range_with_len_more at 0 (r * n + s) (r * n + s) (omega arith)))
   where
@@ -123,4 +123,4 @@ cells_more nodes place scales r s cells cell l e f =
     n = states_of nodes place.node
 
     at : ℕ → ℕ
-    at c = new_weight nodes place scales (c / states_of nodes place.node) (c % states_of nodes place.node)
+    at c = new_weight nodes place scales (c % states_of nodes place.node) (c / states_of nodes place.node)

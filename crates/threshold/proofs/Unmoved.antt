@@ -130,7 +130,7 @@ module _ (nodes others : List NodeView) (agent x : ℕ) (r : Controls nodes othe
     mass_there line = λ j. sum_over (states_same nodes others r.len states_there parents_there j) (range_with_len 0 (r.len j)) (λ w. cond (eqb (w d) 0 && eqb (row_there d w j) line) (weight_there w j) (pos 0)) (λ v. 0)
 
 -- ---- a moved table on which a decision does not rely
-module _ (nodes : List NodeView) (x row state : ℕ) (g : IsGraph nodes) (c : HasChanceTables nodes) (place : IsPlace nodes x row state) (num den : ℕ) (moved : List NodeView) (m : IsMoved nodes x row state num den moved)
+module _ (nodes : List NodeView) (x state row : ℕ) (g : IsGraph nodes) (c : HasChanceTables nodes) (place : IsPlace nodes x state row) (num den : ℕ) (moved : List NodeView) (m : IsMoved nodes x state row num den moved)
     (agent d : ℕ) (kd : IsDecision nodes d) (free : ReliesOn (as_decision nodes agent x) d x → ⊥) (base : List RuleView) (hb : IsProfile nodes base) where
   abbrev others : List NodeView
   others = as_decision nodes agent x
@@ -139,7 +139,7 @@ module _ (nodes : List NodeView) (x row state : ℕ) (g : IsGraph nodes) (c : Ha
   r = controls nodes agent x (chance_within nodes x place.kind)
 
   l : IsLike nodes moved
-  l = like_of nodes moved x row state num den place m
+  l = like_of nodes moved x state row num den place m
 
   s : Controls moved others agent x
   s = record {
@@ -222,25 +222,25 @@ module _ (nodes : List NodeView) (x row state : ℕ) (g : IsGraph nodes) (c : Ha
   above : (n : ℕ) → 0 < n → pos 0 <ℤ pos n
   above n h = omega (arith, ints)
 
-  module _ (positive : 0 < den) (weighs : pos 0 <ℤ state_weight nodes x row state) where
+  module _ (positive : 0 < den) (weighs : pos 0 <ℤ state_weight nodes x state row) where
     -- a cell that is nought stays so
-    stays_zero : (i j : ℕ) → i < rows_of nodes x → j < states_of nodes x → state_weight nodes x i j ≡ pos 0 → state_weight moved x i j ≡ pos 0
+    stays_zero : (i j : ℕ) → i < rows_of nodes x → j < states_of nodes x → state_weight nodes x j i ≡ pos 0 → state_weight moved x j i ≡ pos 0
     stays_zero i j a b e = go (ℕ_discrete i row) (ℕ_discrete j state)
       where
         clash : (z : ℤ) → pos 0 <ℤ z → z ≡ pos 0 → ⊥
         clash z h e = omega (arith, ints)
 
-        go : Dec (i ≡ row) → Dec (j ≡ state) → state_weight moved x i j ≡ pos 0
+        go : Dec (i ≡ row) → Dec (j ≡ state) → state_weight moved x j i ≡ pos 0
         go (no n) k =
-            zero_factor (state_weight moved x i j) (pos (chance_total nodes x)) (above (chance_total nodes x) (c.positive x place.kind))
-            (m.elsewhere i j a b n ∙ ap (λ z. z *ℤ pos (chance_total moved x)) e ∙ zero_mul (pos (chance_total moved x)))
-        go (yes p) (yes q) = absurd (clash (state_weight nodes x row state) weighs ((λ t. state_weight nodes x (sym p t) (sym q t)) ∙ e))
+            zero_factor (state_weight moved x j i) (pos (chance_total nodes x)) (above (chance_total nodes x) (c.positive x place.kind))
+            (m.elsewhere j i b a n ∙ ap (λ z. z *ℤ pos (chance_total moved x)) e ∙ zero_mul (pos (chance_total moved x)))
+        go (yes p) (yes q) = absurd (clash (state_weight nodes x state row) weighs ((λ t. state_weight nodes x (sym q t) (sym p t)) ∙ e))
         go (yes p) (no n) =
-            let here : state_weight nodes x row j ≡ pos 0 = ap (λ t. state_weight nodes x t j) (sym p) ∙ e in
+            let here : state_weight nodes x j row ≡ pos 0 = ap (λ t. state_weight nodes x j t) (sym p) ∙ e in
             let nought = m.shared j b n ∙ ap (λ z. ((pos den -ℤ pos num) *ℤ z) *ℤ pos (chance_total moved x)) here ∙ ap (λ z. z *ℤ pos (chance_total moved x)) (mul_zero (pos den -ℤ pos num)) ∙ zero_mul (pos (chance_total moved x)) in
-            ap (λ t. state_weight moved x t j) p
-            ∙ zero_factor (state_weight moved x row j) (pos den) (above den positive)
-            (zero_factor (state_weight moved x row j *ℤ pos den) (others_weight nodes x row state) place.others (mul_assoc (state_weight moved x row j) (pos den) (others_weight nodes x row state) ∙ nought))
+            ap (λ t. state_weight moved x j t) p
+            ∙ zero_factor (state_weight moved x j row) (pos den) (above den positive)
+            (zero_factor (state_weight moved x j row *ℤ pos den) (others_weight nodes x state row) place.others (mul_assoc (state_weight moved x j row) (pos den) (others_weight nodes x state row) ∙ nought))
 
     -- a table's number that is nought stays so
     zero_there : (v : ℕ) → v ≢ d → (w : World) → InRange (states_of others) w → table others before v w ≡ pos 0 → table others after v w ≡ pos 0
@@ -249,14 +249,14 @@ module _ (nodes : List NodeView) (x row state : ℕ) (g : IsGraph nodes) (c : Ha
         inside : InRange (states_of nodes) w
         inside = subst (λ f. InRange f w) (states_same nodes others r.len (states_at nodes others agent x r place.kind) (parents_at nodes others agent x r place.kind)) h
 
-        was : table others before x w ≡ state_weight nodes x (row_of nodes x w) (w x)
+        was : table others before x w ≡ state_weight nodes x (w x) (row_of nodes x w)
         was = table_filled nodes others agent x r place.kind c base hb x (chance_within nodes x place.kind) w ∙ (λ t. table_by (place.kind t) (node_at nodes x).cells (weights_of base x) (cell_of nodes x w))
 
-        is : table others after x w ≡ state_weight moved x (row_of nodes x w) (w x)
+        is : table others after x w ≡ state_weight moved x (w x) (row_of nodes x w)
         is =
             table_filled moved others agent x s chance m.tables base profile x (subst (λ n. x < n) (sym m.len) (chance_within nodes x place.kind)) w
             ∙ (λ t. table_by (chance t) (node_at moved x).cells (weights_of base x) (cell_of moved x w))
-            ∙ ap (λ i. state_weight moved x i (w x)) (row_same nodes moved l.len l.states l.parents x w)
+            ∙ ap (λ i. state_weight moved x (w x) i) (row_same nodes moved l.len l.states l.parents x w)
 
         go : Dec (v ≡ x) → table others after v w ≡ pos 0
         go (yes q) =

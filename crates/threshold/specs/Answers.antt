@@ -22,7 +22,7 @@ use Rattle.threshold.specs.Weights.{IsCell}
 -- at the fraction the rules s stay best at the decision
 abbrev pub HoldsAtFraction : List NodeView → List RuleView → Place → ℕ → ℕ → ℕ → Type 0
 HoldsAtFraction nodes s place d num den = (moved : List NodeView) → IsMoved nodes place.node
-    place.row place.state num den moved → HoldsAt nodes s moved d
+    place.state place.row num den moved → HoldsAt nodes s moved d
 
 -- at all decisions
 abbrev pub HoldsAtAll : List NodeView → List RuleView → Place → ℕ → ℕ → Type 0
@@ -61,7 +61,7 @@ pub record IsQuestion (q : Question) : Type 0 where
 -- the answer's decision does not rely on the node's table, and each of its rows is reached, or the state has weight
 pub record AnswerStands (q : Question) (answer : AnswerView) : Type 0 where
   pub free : IsFreeOf q.controlled answer.decision q.place.node
-  pub reached : (pos 0 <ℤ state_weight q.diagram.now.nodes q.place.node q.place.row q.place.state)
+  pub reached : (pos 0 <ℤ state_weight q.diagram.now.nodes q.place.node q.place.state q.place.row)
       ⊎ (list_all (λ row. is_some row.worth) answer.rows ≡ true)
 
 -- these are the plans of the answer's decision

@@ -12,29 +12,29 @@ use Rattle.threshold.specs.declared.weights.Place.{Place}
 
 -- the refusals at the place
 abbrev pub place_pass : DiagramView → Place → Pass FaultView
-place_pass d place = span_pass d place.node place.row place.state
+place_pass d place = span_pass d place.node place.state place.row
 
 -- the table's total, what the other states of the row weigh, which is above nought, and their least common multiple,
 -- within the range of totals
 pub record AreTotals (nodes : List NodeView) (place : Place) (totals : Totals) : Type 0 where
   pub table : totals.table ≡ chance_total nodes place.node
-  pub others : pos totals.others ≡ others_weight nodes place.node place.row place.state
+  pub others : pos totals.others ≡ others_weight nodes place.node place.state place.row
   pub some : 0 < totals.others
-  pub common : IsCommonMultiple nodes place.node place.row place.state totals.common
+  pub common : IsCommonMultiple nodes place.node place.state place.row totals.common
   pub positive : 0 < totals.common
   pub small : totals.common ≤ greatest_number
 
 -- the diagram in which the probability is 0 or 1, with that total
 pub record IsEnd
     (d : DiagramView) (place : Place) (num whole : ℕ) (end : DiagramView) : Type 0 where
-  pub moved : IsMoved d.nodes place.node place.row place.state num 1 end.nodes
+  pub moved : IsMoved d.nodes place.node place.state place.row num 1 end.nodes
   pub total : chance_total end.nodes place.node ≡ whole
   pub agents : end.agents ≡ d.agents
   pub decimals : end.decimals ≡ d.decimals
 
 -- both, with one total
 pub record AreEnds (d : DiagramView) (place : Place) (nought one : DiagramView) : Type 0 where
-  pub some : pos 0 <ℤ others_weight d.nodes place.node place.row place.state
+  pub some : pos 0 <ℤ others_weight d.nodes place.node place.state place.row
   pub total : ℕ
   pub at_nought : IsEnd d place 0 total nought
   pub at_one : IsEnd d place 1 total one

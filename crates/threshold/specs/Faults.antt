@@ -27,13 +27,13 @@ span_fault faults.NoMemory = None
 
 -- all other states of the row weigh nought
 abbrev pub OthersWeighNought : List NodeView → ℕ → ℕ → ℕ → Type 0
-OthersWeighNought nodes x row state =
-    (s : ℕ) → s < states_of nodes x → s ≢ state → state_weight nodes x row s ≡ pos 0
+OthersWeighNought nodes x state row =
+    (s : ℕ) → s < states_of nodes x → s ≢ state → state_weight nodes x s row ≡ pos 0
 
 -- the least common multiple of the table's total and of what the other states of the row weigh
 abbrev pub IsCommonMultiple : List NodeView → ℕ → ℕ → ℕ → ℕ → Type 0
-IsCommonMultiple nodes x row state total =
-    IsLcm (chance_total nodes x) (nat_abs (others_weight nodes x row state)) total
+IsCommonMultiple nodes x state row total =
+    IsLcm (chance_total nodes x) (nat_abs (others_weight nodes x state row)) total
 
 -- the node with other cells
 abbrev pub node_with : NodeView → List ℤ → NodeView
@@ -68,5 +68,5 @@ total_pass d x total =
 
 -- the refusals, one behind another
 abbrev pub span_pass : DiagramView → ℕ → ℕ → ℕ → Pass FaultView
-span_pass d x row state = rule (OthersWeighNought d.nodes x row state) NoOthers
-    ▸ over (IsCommonMultiple d.nodes x row state) (total_pass d x)
+span_pass d x state row = rule (OthersWeighNought d.nodes x state row) NoOthers
+    ▸ over (IsCommonMultiple d.nodes x state row) (total_pass d x)

@@ -65,12 +65,12 @@ lead_at gains best other = slice_index_or gains best (pos 0) -ℤ slice_index_or
 
 -- what the choice gains more than another state in a row
 abbrev pub lead_in : List ℤ → ℕ → ℕ → ℕ → ℕ → ℤ
-lead_in gains states line choice s = gain_in gains states line choice -ℤ gain_in gains states line s
+lead_in gains states choice s line = gain_in gains states choice line -ℤ gain_in gains states s line
 
 -- at the fraction no state gains more in the row than the choice
 abbrev pub IsBestIn : List ℤ → List ℤ → ℕ → ℕ → ℕ → ℕ → ℕ → Type 0
-IsBestIn nought one states line choice num den = (s : ℕ) → s < states
-    → IsNotBelow (lead_in nought states line choice s) (lead_in one states line choice s) num den
+IsBestIn nought one states choice line num den = (s : ℕ) → s < states
+    → IsNotBelow (lead_in nought states choice s line) (lead_in one states choice s line) num den
 
 -- the choice of a row
 abbrev pub choice_at : List Row → ℕ → ℕ
@@ -79,7 +79,7 @@ choice_at rows line = (slice_index_or rows line no_row).choice
 -- nor in any of the first n rows
 abbrev pub AreBestIn : List ℤ → List ℤ → ℕ → List Row → ℕ → ℕ → ℕ → Type 0
 AreBestIn nought one states rows n num den =
-    (line : ℕ) → line < n → IsBestIn nought one states line (choice_at rows line) num den
+    (line : ℕ) → line < n → IsBestIn nought one states (choice_at rows line) line num den
 
 -- nor in any row
 abbrev pub AllBestIn : List ℤ → List ℤ → ℕ → List Row → ℕ → ℕ → Type 0

@@ -26,15 +26,15 @@ scaled scales in_row is_state weight = if in_row
 
 -- the new weight of a state in a row
 abbrev pub new_weight : List NodeView → Place → Scales → ℕ → ℕ → ℕ
-new_weight nodes place scales r s =
-    scaled scales (r == place.row) (s == place.state) (nat_abs (state_weight nodes place.node r s))
+new_weight nodes place scales s r =
+    scaled scales (r == place.row) (s == place.state) (nat_abs (state_weight nodes place.node s r))
 
 -- the first n cells of the new table
 abbrev pub new_cells : List NodeView → Place → Scales → ℕ → List ℤ
 new_cells nodes place scales n = map pos (map
     (λ c.
-    new_weight nodes place scales (c / states_of nodes place.node)
-    (c % states_of nodes place.node)) (range_with_len 0 n))
+    new_weight nodes place scales (c % states_of nodes place.node)
+    (c / states_of nodes place.node)) (range_with_len 0 n))
 
 -- all of them
 abbrev pub new_table : List NodeView → Place → Scales → List ℤ
@@ -51,5 +51,5 @@ rewritten_diagram d place scales = with_nodes d (rewritten d.nodes place scales)
 
 -- no new weight is too great
 abbrev pub KeepsRange : List NodeView → Place → Scales → Type 0
-KeepsRange nodes place scales = (r s : ℕ) → r < rows_of nodes place.node
-    → s < states_of nodes place.node → new_weight nodes place scales r s ≤ greatest_number
+KeepsRange nodes place scales = (s r : ℕ) → s < states_of nodes place.node
+    → r < rows_of nodes place.node → new_weight nodes place scales s r ≤ greatest_number

@@ -118,8 +118,8 @@ fn narrow_row(
     requires small_nought { AreSmallGains nought.now }
     requires small_one { AreSmallGains one.now }
     requires choice { choice < states }
-    requires somewhere { HoldsSomewhere (IsBestIn nought.now one.now states line choice) }
-    ensures { Narrows (IsBestIn nought.now one.now states line choice) held result }
+    requires somewhere { HoldsSomewhere (IsBestIn nought.now one.now states choice line) }
+    ensures { Narrows (IsBestIn nought.now one.now states choice line) held result }
 {
     let best = line * states + choice;
     let mut held = held;

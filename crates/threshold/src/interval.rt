@@ -64,28 +64,28 @@ pub fn span(
     diagram: &Diagram,
     solved: &Solved,
     node: usize,
-    row: usize,
     state: usize,
+    row: usize,
 ) -> Result<Interval, SpanFault>
     // The solver doesn't refuse the diagram, and answers this.
     requires solves { solve_pass diagram.now None }
     requires answer { IsAnswer diagram.now solved.now }
     requires chance { (node_at diagram.now.nodes node).kind ≡ Chance }
-    requires row { row < rows_of diagram.now.nodes node }
     requires state { state < states_of diagram.now.nodes node }
-    ensures rows { Passes span_fault (span_pass diagram.now node row state) result }
-    ensures now { IfOk result (TellsNow diagram.now.nodes node row state) }
+    requires row { row < rows_of diagram.now.nodes node }
+    ensures rows { Passes span_fault (span_pass diagram.now node state row) result }
+    ensures now { IfOk result (TellsNow diagram.now.nodes node state row) }
     // Inside the rules hold, and outside some row has a better state.
-    ensures span { IfOk result (TellsSpan diagram.now solved.now node row state) }
-    ensures only { IfOk result (IsOnlySpan diagram.now solved.now node row state) }
+    ensures span { IfOk result (TellsSpan diagram.now solved.now node state row) }
+    ensures only { IfOk result (IsOnlySpan diagram.now solved.now node state row) }
     // Inside no agent gains by other rules of its own from any subgame start.
-    ensures perfect { IfOk result (StaysPerfect diagram.now solved.now node row state) }
+    ensures perfect { IfOk result (StaysPerfect diagram.now solved.now node state row) }
 {
     // Somewhere the rules hold, in no other interval, and where they do they are subgame-perfect.
     stays_best();
     held_is_perfect();
     answers_are_best();
-    let place = Place { node, row, state };
+    let place = Place { node, state, row };
     let ends = find_ends(alloc, diagram, place)?;
     let held = hold_answers(alloc, diagram, solved, place, &ends)?;
     Ok(Interval {

@@ -8,7 +8,7 @@
 //! use threshold::span;
 //!
 //! let solved = solve(alloc, &diagram)?;
-//! let interval = span(alloc, &diagram, &solved, node, row, state)?;
+//! let interval = span(alloc, &diagram, &solved, node, state, row)?;
 //! ```
 #![tactic(auto)]
 

@@ -13,8 +13,8 @@ use std::alloc::{AllocError, Global};
 #[derive(Clone, Copy)]
 pub(crate) struct Place {
     pub node: usize,
-    pub row: usize,
     pub state: usize,
+    pub row: usize,
 }
 
 /// How the weights of a table are written anew.
@@ -47,7 +47,7 @@ impl Scales {
 /// The weight of the state in the row.
 pub(crate) fn weight_there(diagram: &Diagram, place: Place) -> u128
     requires { IsCell diagram.now.nodes place }
-    ensures weight { pos result ≡ state_weight diagram.now.nodes place.node place.row place.state }
+    ensures weight { pos result ≡ state_weight diagram.now.nodes place.node place.state place.row }
     ensures diagram { IsDiagram diagram.now }
 {
     let cells = diagram.cells(place.node);
@@ -55,16 +55,16 @@ pub(crate) fn weight_there(diagram: &Diagram, place: Place) -> u128
 }
 
 /// The new weight of a state in a row.
-fn new_weight(diagram: &Diagram, place: Place, scales: Scales, row: usize, state: usize) -> u128
+fn new_weight(diagram: &Diagram, place: Place, scales: Scales, state: usize, row: usize) -> u128
     requires cell { IsCell diagram.now.nodes place }
     requires fits { KeepsRange diagram.now.nodes place scales }
-    requires row { row < rows_of diagram.now.nodes place.node }
     requires state { state < states_of diagram.now.nodes place.node }
-    ensures weight { result ≡ new_weight diagram.now.nodes place scales row state }
+    requires row { row < rows_of diagram.now.nodes place.node }
+    ensures weight { result ≡ new_weight diagram.now.nodes place scales state row }
     ensures small { result ≤ greatest_number }
 {
     let node = place.node;
-    let old = weight_there(diagram, Place { node, row, state });
+    let old = weight_there(diagram, Place { node, state, row });
     scales.scaled(row == place.row, state == place.state, old)
 }
 
@@ -84,7 +84,7 @@ pub(crate) fn new_table(
     let mut cells = Vec::with_capacity(alloc, rows * states)?;
     for row in 0..rows {
         for state in 0..states {
-            cells.push(new_weight(diagram, place, scales, row, state) as i128)?;
+            cells.push(new_weight(diagram, place, scales, state, row) as i128)?;
         }
     }
     Ok(cells)

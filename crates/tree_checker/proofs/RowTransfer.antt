@@ -129,7 +129,7 @@ module _ (d : DiagramView) (p : List RuleView) (v : ℕ) (g : IsGraph d.nodes) (
 
   module _ (alike : (row : ℕ) → DecidesAlike d.nodes p (scope_of d.nodes v) v row)
       (whole : (row : ℕ) → mass_at d.nodes p v row ≡ pos (mass_left_out d.nodes p (scope_of d.nodes v)) *ℤ mass_at (part_of d.nodes (scope_of d.nodes v)) (rules_in d.nodes p (scope_of d.nodes v)) (place_in (scope_of d.nodes v) v) row) where
-    listed : (row : ℕ) → row < rows_of d.nodes v → IsListedRow d.nodes p (scope_of d.nodes v) v row (states_of d.nodes v) (gain_in gains (states_of d.nodes v) row) (slice_index masses row)
+    listed : (row : ℕ) → row < rows_of d.nodes v → IsListedRow d.nodes p (scope_of d.nodes v) v row (states_of d.nodes v) (λ s. gain_in gains (states_of d.nodes v) s row) (slice_index masses row)
     listed row l =
         let inside : row < rows_of (part_of d.nodes (scope_of d.nodes v)) (place_in (scope_of d.nodes v) v) = subst (λ n. row < n) (sym (rows_there d.nodes v g k parts scopes)) l in
         record {
@@ -137,7 +137,7 @@ module _ (d : DiagramView) (p : List RuleView) (v : ℕ) (g : IsGraph d.nodes) (
           masses = whole row;
           gains_are = λ s h.
               ap (λ n. slice_index_or gains (row * n + s) (pos 0)) (sym (states_there d.nodes v g k parts scopes))
-              ∙ sums.gain row s inside (subst (λ n. s < n) (sym (states_there d.nodes v g k parts scopes)) h);
+              ∙ sums.gain s row (subst (λ n. s < n) (sym (states_there d.nodes v g k parts scopes)) h) inside;
           mass_is = sums.mass_there row inside;
         }
 
@@ -147,7 +147,7 @@ module _ (d : DiagramView) (p : List RuleView) (v : ℕ) (g : IsGraph d.nodes) (
     rows_judged rows count choices fault judged =
         rows_like (PassesListed gains masses (states_of d.nodes v) (10 ^ d.decimals)) (IsAcceptedRow d.nodes d.decimals p v) (FailsListed gains masses (states_of d.nodes v) (10 ^ d.decimals)) (FailsRow d.nodes d.decimals p v) rows
         (λ row l q. accepted_of d.nodes d.decimals p v row (slice_index_or rows row no_row)
-        (row_passes d.nodes p (scope_of d.nodes v) v row (states_of d.nodes v) (gain_in gains (states_of d.nodes v) row) (slice_index masses row) (10 ^ d.decimals) (slice_index_or rows row no_row) (listed row (subst (λ n. row < n) count l)) (choices row l) q))
+        (row_passes d.nodes p (scope_of d.nodes v) v row (states_of d.nodes v) (λ s. gain_in gains (states_of d.nodes v) s row) (slice_index masses row) (10 ^ d.decimals) (slice_index_or rows row no_row) (listed row (subst (λ n. row < n) count l)) (choices row l) q))
         (λ row l cause q.
-        row_fails d.nodes p (scope_of d.nodes v) v row (states_of d.nodes v) (gain_in gains (states_of d.nodes v) row) (slice_index masses row) (10 ^ d.decimals) (slice_index_or rows row no_row) (listed row (subst (λ n. row < n) count l)) (choices row l) cause q)
+        row_fails d.nodes p (scope_of d.nodes v) v row (states_of d.nodes v) (λ s. gain_in gains (states_of d.nodes v) s row) (slice_index masses row) (10 ^ d.decimals) (slice_index_or rows row no_row) (listed row (subst (λ n. row < n) count l)) (choices row l) cause q)
         fault judged

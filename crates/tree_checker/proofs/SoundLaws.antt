@@ -16,7 +16,7 @@ module _ (d : DiagramView) (solved : SolvedView) (g : IsGraph d.nodes) (c : HasC
   perfect : IsSubgamePerfect d.nodes (answered d solved)
   perfect =
       exchange_law d.nodes (answered d solved) g c
-      (choices_law d solved g c a.fits a.order (λ v k. record { base = (a.rows v k).base; is_base = (a.rows v k).is_base; best = λ row state l n p. ((a.rows v k).each row l).best p state n }))
+      (choices_law d solved g c a.fits a.order (λ v k. record { base = (a.rows v k).base; is_base = (a.rows v k).is_base; best = λ state row n l p. ((a.rows v k).each row l).best p state n }))
 
   optimal : (agent : ℕ) → OwnsAll d.nodes agent → IsOptimal d.nodes (answered d solved) agent
   optimal agent owns = one_agent_law d.nodes (answered d solved) agent g perfect owns

@@ -63,7 +63,7 @@ module _ (d : DiagramView) (is : IsDiagram d) where
     sums_listed gains cells masses h n taken = record {
       gain_count = h.gain_count;
       mass_count = n;
-      gain = λ row s lr ls. h.gain (row * states_of d.nodes v + s) ∙ gain_there row s ls;
+      gain = λ s row ls lr. h.gain (row * states_of d.nodes v + s) ∙ gain_there row s ls;
       mass_there = λ row lr. ap pos (taken row lr) ∙ h.mass (row * states_of d.nodes v) ∙ mass_there row;
       gain_small = h.gain_small;
       mass_small = λ row. small row (dec_lt row (rows_of d.nodes v));

@@ -23,7 +23,7 @@ pub record ListsSums
     (d : DiagramView) (p : List RuleView) (v : ℕ) (gains : List ℤ) (masses : List ℕ) : Type 0 where
   pub gain_count : length gains ≡ rows_of d.nodes v * states_of d.nodes v
   pub mass_count : length masses ≡ rows_of d.nodes v
-  pub gain : (row s : ℕ) → row < rows_of d.nodes v → s < states_of d.nodes v
+  pub gain : (s row : ℕ) → s < states_of d.nodes v → row < rows_of d.nodes v
       → slice_index_or gains (row * states_of d.nodes v + s) (pos 0) ≡ gain_at d.nodes p v s row
   pub mass_there :
       (row : ℕ) → row < rows_of d.nodes v → pos (slice_index masses row) ≡ mass_at d.nodes p v row
@@ -95,17 +95,17 @@ listed_gain gains s = slice_index_or gains s (pos 0)
 
 -- the list is that of the row's states
 abbrev pub ListsRow : List ℤ → ℕ → ℕ → List ℤ → Type 0
-ListsRow gains states row list = (s : ℕ) → s < states → listed_gain list s ≡ gain_in gains states row s
+ListsRow gains states row list = (s : ℕ) → s < states → listed_gain list s ≡ gain_in gains states s row
 
 -- the row passes by listed gains and masses
 abbrev pub PassesListed : List ℤ → List ℕ → ℕ → ℕ → ℕ → Row → Type 0
 PassesListed gains masses states scale row r =
-    PassesIn (gain_in gains states row) states (pos (slice_index masses row)) scale r
+    PassesIn (λ s. gain_in gains states s row) states (pos (slice_index masses row)) scale r
 
 -- the row fails for the cause, by listed gains and masses
 abbrev pub FailsListed : List ℤ → List ℕ → ℕ → ℕ → ℕ → Row → Cause → Type 0
 FailsListed gains masses states scale row r cause =
-    FailsIn (gain_in gains states row) states (pos (slice_index masses row)) scale r cause
+    FailsIn (λ s. gain_in gains states s row) states (pos (slice_index masses row)) scale r cause
 
 -- the fault is that of the first row that doesn't pass
 pub record IsFirstFault

@@ -27,7 +27,7 @@ use threshold::{Interval, SpanFault, span};
 fn others_weigh_nought(diagram: &Diagram, place: StatePlace, row: usize) -> bool
     requires kind { (node_at diagram.now.nodes place.node).kind ≡ Chance }
     requires row { row < rows_of diagram.now.nodes place.node }
-    ensures { IsTrue result ↔ OthersWeighNought diagram.now.nodes place.node row place.state }
+    ensures { IsTrue result ↔ OthersWeighNought diagram.now.nodes place.node place.state row }
 {
     let states = diagram.states(place.node);
     let cells = diagram.cells(place.node);
@@ -80,13 +80,13 @@ fn find_interval(
     requires place { IsCellPlace diagram.now place row }
     ensures bound { OnOk result (moved_pass diagram.now names.now place row None) }
     ensures err { IfErr result (RefusesBy (moved_pass diagram.now names.now place row)) }
-    ensures now { IfOk result (TellsNow diagram.now.nodes place.node (row - 1) place.state) }
+    ensures now { IfOk result (TellsNow diagram.now.nodes place.node place.state (row - 1)) }
     ensures span { IfOk result
-        (TellsSpan diagram.now solved.now place.node (row - 1) place.state) }
+        (TellsSpan diagram.now solved.now place.node place.state (row - 1)) }
     ensures only { IfOk result (IsOnlySpanAt diagram.now solved.now place row) }
     ensures perfect { IfOk result (StaysPerfectAt diagram.now solved.now place row) }
 {
-    match span(alloc, diagram, solved, place.node, row - 1, place.state) {
+    match span(alloc, diagram, solved, place.node, place.state, row - 1) {
         Ok(interval) => Ok(interval),
         Err(SpanFault::NoOthers) => unreachable!(),
         Err(SpanFault::WeightBound { node }) => Err(told(

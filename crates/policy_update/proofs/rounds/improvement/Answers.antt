@@ -5,10 +5,10 @@ use Rattle.maid_model.specs.declared.answers.Row.{Row}
 use Rattle.maid_model.specs.Nodes.{states_of}
 use Rattle.maid_model.specs.Scopes.{scope_of}
 use Rattle.maid_model.specs.Views.{AnswerView}
-use Rattle.maid_model.specs.Gains.{gain_in}
+use Rattle.maid_model.specs.Gains.{gain_at, gain_in}
 use Rattle.part_laws.specs.PartLaws.{DecidesAlike}
 use Rattle.rule_solver.specs.Sums.{IsRowGains}
-use Rattle.policy_update.specs.Steps.{AreImproved, gains_in}
+use Rattle.policy_update.specs.Steps.{AreImproved}
 use Rattle.policy_update.proofs.Scopes.{in_whole}
 use Rattle.policy_update.proofs.rounds.improvement.Goals as goal
 
@@ -27,7 +27,7 @@ returns-clause-rows c =
     let gains = c.deref.result.now in
     let sums : IsRowGains nodes p d gains =
     subst (λ (g : List ℤ). IsRowGains nodes p d g) (sym c.deref.ensures.value) (subst (λ e. IsRowGains nodes p e c.in_ok-gains.gains.items) same c.in_ok-gains.ensures.gains) in
-    IfOk-weaker c.improved_rows.result (λ v. AreImproved (gain_in gains (states_of nodes d)) (states_of nodes d) c.args.answer.now.rows v.items) (λ v. AreImproved (gains_in nodes p d) (states_of nodes d) c.args.answer.now.rows v.items)
+    IfOk-weaker c.improved_rows.result (λ v. AreImproved (gain_in gains (states_of nodes d)) (states_of nodes d) c.args.answer.now.rows v.items) (λ v. AreImproved (gain_at nodes p d) (states_of nodes d) c.args.answer.now.rows v.items)
     (λ v h. in_whole nodes p d alike gains sums c.args.answer.now.rows v.items c.requires.fits.rows h)
     (subst (λ n. IfOk c.improved_rows.result (λ v. AreImproved (gain_in gains n) n c.args.answer.now.rows v.items)) states
     (subst (λ (r : List Row). IfOk c.improved_rows.result (λ v. AreImproved (gain_in gains c.states-states.result) c.states-states.result r v.items)) rows c.improved_rows.ensures))

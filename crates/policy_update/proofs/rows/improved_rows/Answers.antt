@@ -9,7 +9,7 @@ use Rattle.policy_update.proofs.rows.improved_rows.Goals as goal
 pub loop-row-preserved : goal.loop-row-preserved
 loop-row-preserved c =
     let own : ℕ → ℤ = λ s. slice_index_or c.row_gains-gains.result.now s (pos 0) in
-    let all : ℕ → ℤ = gain_in c.args.gains.now c.args.states c.loop-row.row in
+    let all : ℕ → ℤ = λ s. gain_in c.args.gains.now c.args.states s c.loop-row.row in
     subst (AreImprovedTo (gain_in c.args.gains.now c.args.states) c.args.states c.args.rows.now (c.loop-row.row + 1)) (sym {A = List Row} c.in_ok-push.ensures.items)
     (rows_more (gain_in c.args.gains.now c.args.states) c.args.states c.args.rows.now c.loop-row.row c.loop-row.after.items (record { choice = c.improved.result; worth = no_row.worth }) c.loop-row.invariant
     (improved_alike own all c.args.states (slice_index_or c.args.rows.now c.loop-row.row no_row).choice c.improved.result (equal_alike own all c.args.states c.row_gains-gains.ensures.gains)

@@ -7,6 +7,6 @@ use Rattle.rule_solver.proofs.rows.answer_at.Goals as goal
 pub returns-clause-row : goal.returns-clause-row
 returns-clause-row c =
     let own : ℕ → _ = λ s. slice_index_or c.row_gains.result.now s (pos 0) in
-    answers-same own (gain_in c.args.gains.now c.args.states c.args.row) c.args.states (slice_index c.args.masses.now c.args.row) c.args.scale c.answer_row.result c.row_gains.ensures.gains
+    answers-same own (λ s. gain_in c.args.gains.now c.args.states s c.args.row) c.args.states (slice_index c.args.masses.now c.args.row) c.args.scale c.answer_row.result c.row_gains.ensures.gains
     (subst (λ n. c.answer_row.result.choice < n) c.row_gains.ensures.count c.answer_row.ensures.choice)
     (subst (λ n. AnswersRow own n (slice_index c.args.masses.now c.args.row) c.args.scale c.answer_row.result) c.row_gains.ensures.count c.answer_row.ensures.row)

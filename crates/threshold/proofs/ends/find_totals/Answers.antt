@@ -22,8 +22,8 @@ returns-then-weight-table-clause-refused c =
 
 pub overflow_sub-others : goal.overflow_sub-others
 overflow_sub-others c =
-    nat_le c.weight_there-weight.result c.weight_total-table.result (state_weight c.args.diagram.now.nodes c.args.place.node c.args.place.row c.args.place.state) c.weight_there-weight.ensures.weight
-    (subst (λ n. state_weight c.args.diagram.now.nodes c.args.place.node c.args.place.row c.args.place.state ≤ℤ pos n) (sym c.weight_total-table.ensures) (weight_at_most c.args.diagram.now.nodes c.args.place c.weight_there-weight.ensures.diagram.tables c.requires))
+    nat_le c.weight_there-weight.result c.weight_total-table.result (state_weight c.args.diagram.now.nodes c.args.place.node c.args.place.state c.args.place.row) c.weight_there-weight.ensures.weight
+    (subst (λ n. state_weight c.args.diagram.now.nodes c.args.place.node c.args.place.state c.args.place.row ≤ℤ pos n) (sym c.weight_total-table.ensures) (weight_at_most c.args.diagram.now.nodes c.args.place c.weight_there-weight.ensures.diagram.tables c.requires))
 
 pub lcm_within-requires-clause-b_positive : goal.lcm_within-requires-clause-b_positive
 lcm_within-requires-clause-b_positive c =
@@ -34,12 +34,12 @@ lcm_within-requires-clause-b_positive c =
 pub returns-in-Some-clause-totals : goal.returns-in-Some-clause-totals
 returns-in-Some-clause-totals c =
     let h = others_are c.args.diagram.now.nodes c.args.place c.weight_there-weight.ensures.diagram.tables c.requires c.weight_there-weight.result c.weight_there-weight.ensures.weight (λ e. c.if-weight-table.false (e ∙ sym c.weight_total-table.ensures)) in
-    let others : pos (c.weight_total-table.result - c.weight_there-weight.result) ≡ others_weight c.args.diagram.now.nodes c.args.place.node c.args.place.row c.args.place.state = ap (λ n. pos (n - c.weight_there-weight.result)) c.weight_total-table.ensures ∙ h.1 in
+    let others : pos (c.weight_total-table.result - c.weight_there-weight.result) ≡ others_weight c.args.diagram.now.nodes c.args.place.node c.args.place.state c.args.place.row = ap (λ n. pos (n - c.weight_there-weight.result)) c.weight_total-table.ensures ∙ h.1 in
     record {
       table = c.weight_total-table.ensures;
       others = others;
       some = (let l = h.0 in let k = c.weight_total-table.ensures in omega arith);
-      common = lcm_there c.weight_total-table.result (c.weight_total-table.result - c.weight_there-weight.result) (chance_total c.args.diagram.now.nodes c.args.place.node) c.in-Some.common (others_weight c.args.diagram.now.nodes c.args.place.node c.args.place.row c.args.place.state) c.weight_total-table.ensures others c.in-Some.ensures.some.0;
+      common = lcm_there c.weight_total-table.result (c.weight_total-table.result - c.weight_there-weight.result) (chance_total c.args.diagram.now.nodes c.args.place.node) c.in-Some.common (others_weight c.args.diagram.now.nodes c.args.place.node c.args.place.state c.args.place.row) c.weight_total-table.ensures others c.in-Some.ensures.some.0;
       positive = c.in-Some.ensures.some.1;
       small = c.in-Some.ensures.some.2;
     }
@@ -47,9 +47,9 @@ returns-in-Some-clause-totals c =
 pub returns-in-None-clause-refused : goal.returns-in-None-clause-refused
 returns-in-None-clause-refused c =
     let h = others_are c.args.diagram.now.nodes c.args.place c.weight_there-weight.ensures.diagram.tables c.requires c.weight_there-weight.result c.weight_there-weight.ensures.weight (λ e. c.if-weight-table.false (e ∙ sym c.weight_total-table.ensures)) in
-    let others : pos (c.weight_total-table.result - c.weight_there-weight.result) ≡ others_weight c.args.diagram.now.nodes c.args.place.node c.args.place.row c.args.place.state = ap (λ n. pos (n - c.weight_there-weight.result)) c.weight_total-table.ensures ∙ h.1 in
+    let others : pos (c.weight_total-table.result - c.weight_there-weight.result) ≡ others_weight c.args.diagram.now.nodes c.args.place.node c.args.place.state c.args.place.row = ap (λ n. pos (n - c.weight_there-weight.result)) c.weight_total-table.ensures ∙ h.1 in
     let over = c.in-None.ensures.none in
     inr (
       (λ none. c.if-weight-table.false (nat_of c.weight_there-weight.result c.weight_total-table.result (c.weight_there-weight.ensures.weight ∙ all_weight c.args.diagram.now.nodes c.args.place c.weight_there-weight.ensures.diagram.tables c.requires none ∙ ap pos (sym c.weight_total-table.ensures)))),
-      (over.0, lcm_there c.weight_total-table.result (c.weight_total-table.result - c.weight_there-weight.result) (chance_total c.args.diagram.now.nodes c.args.place.node) over.0 (others_weight c.args.diagram.now.nodes c.args.place.node c.args.place.row c.args.place.state) c.weight_total-table.ensures others over.1, inl (over.2, refl)),
+      (over.0, lcm_there c.weight_total-table.result (c.weight_total-table.result - c.weight_there-weight.result) (chance_total c.args.diagram.now.nodes c.args.place.node) over.0 (others_weight c.args.diagram.now.nodes c.args.place.node c.args.place.state c.args.place.row) c.weight_total-table.ensures others over.1, inl (over.2, refl)),
     )

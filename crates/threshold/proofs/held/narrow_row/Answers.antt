@@ -11,7 +11,7 @@ narrow-held-requires-clause-somewhere c =
     let fits : FitsSigned w128 c.lead.result = search rules in
     let fits_one : FitsSigned w128 c.lead-in-loop-state.result = search rules in
     let some : HoldsSomewhere (IsNotBelow c.lead.result c.lead-in-loop-state.result) =
-    subst (λ z. HoldsSomewhere (IsNotBelow z c.lead-in-loop-state.result)) (sym c.lead.ensures.lead) (subst (λ z. HoldsSomewhere (IsNotBelow (lead_in c.args.nought.now c.args.states c.args.line c.args.choice c.loop-state.state) z)) (sym c.lead-in-loop-state.ensures.lead)
+    subst (λ z. HoldsSomewhere (IsNotBelow z c.lead-in-loop-state.result)) (sym c.lead.ensures.lead) (subst (λ z. HoldsSomewhere (IsNotBelow (lead_in c.args.nought.now c.args.states c.args.choice c.loop-state.state c.args.line) z)) (sym c.lead-in-loop-state.ensures.lead)
     (record { num = w.num; den = w.den; positive = w.positive; at_most = w.at_most; holds = w.holds c.loop-state.state c.loop-state-test.true })) in
     simp to_z-of_z some
 
@@ -20,12 +20,12 @@ loop-state-preserved c =
     let fits : FitsSigned w128 c.lead.result = search rules in
     let fits_one : FitsSigned w128 c.lead-in-loop-state.result = search rules in
     let step : Narrows (IsNotBelow c.lead.result c.lead-in-loop-state.result) c.loop-state.held c.narrow-held.result = simp to_z-of_z at c.narrow-held.ensures in
-    narrows_more (λ s. IsNotBelow (lead_in c.args.nought.now c.args.states c.args.line c.args.choice s) (lead_in c.args.one.now c.args.states c.args.line c.args.choice s)) c.loop-state.state c.args.held c.loop-state.held c.narrow-held.result c.loop-state.invariant
-    (subst (λ z. Narrows (IsNotBelow z (lead_in c.args.one.now c.args.states c.args.line c.args.choice c.loop-state.state)) c.loop-state.held c.narrow-held.result) c.lead.ensures.lead
+    narrows_more (λ s. IsNotBelow (lead_in c.args.nought.now c.args.states c.args.choice s c.args.line) (lead_in c.args.one.now c.args.states c.args.choice s c.args.line)) c.loop-state.state c.args.held c.loop-state.held c.narrow-held.result c.loop-state.invariant
+    (subst (λ z. Narrows (IsNotBelow z (lead_in c.args.one.now c.args.states c.args.choice c.loop-state.state c.args.line)) c.loop-state.held c.narrow-held.result) c.lead.ensures.lead
     (subst (λ z. Narrows (IsNotBelow c.lead.result z) c.loop-state.held c.narrow-held.result) c.lead-in-loop-state.ensures.lead step))
 
 pub returns : goal.returns
 returns c =
     let t = c.loop-state-test.false in
     let end = c.loop-state.auto.state-end in
-    subst (λ n. Narrows (λ num den. (s : ℕ) → s < n → IsNotBelow (lead_in c.args.nought.now c.args.states c.args.line c.args.choice s) (lead_in c.args.one.now c.args.states c.args.line c.args.choice s) num den) c.args.held c.loop-state.held) (omega arith) c.loop-state.invariant
+    subst (λ n. Narrows (λ num den. (s : ℕ) → s < n → IsNotBelow (lead_in c.args.nought.now c.args.states c.args.choice s c.args.line) (lead_in c.args.one.now c.args.states c.args.choice s c.args.line) num den) c.args.held c.loop-state.held) (omega arith) c.loop-state.invariant

@@ -5,7 +5,7 @@ use Rattle.threshold.proofs.held.narrow_rows.Goals as goal
 
 pub loop-line-preserved : goal.loop-line-preserved
 loop-line-preserved c =
-    narrows_more (λ line. IsBestIn c.args.nought.now c.args.one.now c.args.states line (choice_at c.args.rows.now line)) c.loop-line.line c.args.held c.loop-line.held c.narrow_row-held.result c.loop-line.invariant c.narrow_row-held.ensures
+    narrows_more (λ line. IsBestIn c.args.nought.now c.args.one.now c.args.states (choice_at c.args.rows.now line) line) c.loop-line.line c.args.held c.loop-line.held c.narrow_row-held.result c.loop-line.invariant c.narrow_row-held.ensures
 
 pub returns : goal.returns
 returns c =

@@ -15,7 +15,7 @@ hold_answers-requires c =
     let place : Place = record { node = c.args.node; row = c.args.row; state = c.args.state } in
     let cell : IsCell d.nodes place = record { kind = c.requires.chance; row = c.requires.row; state = c.requires.state } in
     let at = is_place d.nodes place is.tables cell c.in_ok-ends.ensures.ends.some in
-    let law = c.stays_best.ensures.answer d solved c.args.node c.args.row c.args.state is.graph is.tables c.requires.answer at in
+    let law = c.stays_best.ensures.answer d solved c.args.node c.args.state c.args.row is.graph is.tables c.requires.answer at in
     record {
       is_diagram = is;
       answer = c.requires.answer;
@@ -39,7 +39,7 @@ returns-clause-span c =
     let place : Place = record { node = c.args.node; row = c.args.row; state = c.args.state } in
     let cell : IsCell d.nodes place = record { kind = c.requires.chance; row = c.requires.row; state = c.requires.state } in
     let at = is_place d.nodes place is.tables cell c.in_ok-ends.ensures.ends.some in
-    let law = c.stays_best.ensures.answer d solved c.args.node c.args.row c.args.state is.graph is.tables c.requires.answer at in
+    let law = c.stays_best.ensures.answer d solved c.args.node c.args.state c.args.row is.graph is.tables c.requires.answer at in
     let span = span_is d.nodes (answered d solved) place is.graph is.tables at law.0 law.1 law.2 c.in_ok-held.held c.in_ok-held.ensures.range c.in_ok-held.ensures.held c.fraction-2.result c.fraction-3.result c.fraction-2.ensures c.fraction-3.ensures in
     span
 
@@ -51,9 +51,9 @@ returns-clause-only c low high other =
     let place : Place = record { node = c.args.node; row = c.args.row; state = c.args.state } in
     let cell : IsCell d.nodes place = record { kind = c.requires.chance; row = c.requires.row; state = c.requires.state } in
     let at = is_place d.nodes place is.tables cell c.in_ok-ends.ensures.ends.some in
-    let law = c.stays_best.ensures.answer d solved c.args.node c.args.row c.args.state is.graph is.tables c.requires.answer at in
+    let law = c.stays_best.ensures.answer d solved c.args.node c.args.state c.args.row is.graph is.tables c.requires.answer at in
     let span = span_is d.nodes (answered d solved) place is.graph is.tables at law.0 law.1 law.2 c.in_ok-held.held c.in_ok-held.ensures.range c.in_ok-held.ensures.held c.fraction-2.result c.fraction-3.result c.fraction-2.ensures c.fraction-3.ensures in
-    c.stays_best.ensures.one d.nodes (answered d solved) c.args.node c.args.row c.args.state low high c.fraction-2.result c.fraction-3.result is.graph is.tables at other span
+    c.stays_best.ensures.one d.nodes (answered d solved) c.args.node c.args.state c.args.row low high c.fraction-2.result c.fraction-3.result is.graph is.tables at other span
 
 pub returns-clause-perfect : goal.returns-clause-perfect
 returns-clause-perfect c num den moved p q m l h =
@@ -63,6 +63,6 @@ returns-clause-perfect c num den moved p q m l h =
     let place : Place = record { node = c.args.node; row = c.args.row; state = c.args.state } in
     let cell : IsCell d.nodes place = record { kind = c.requires.chance; row = c.requires.row; state = c.requires.state } in
     let at = is_place d.nodes place is.tables cell c.in_ok-ends.ensures.ends.some in
-    let law = c.stays_best.ensures.answer d solved c.args.node c.args.row c.args.state is.graph is.tables c.requires.answer at in
+    let law = c.stays_best.ensures.answer d solved c.args.node c.args.state c.args.row is.graph is.tables c.requires.answer at in
     let span = span_is d.nodes (answered d solved) place is.graph is.tables at law.0 law.1 law.2 c.in_ok-held.held c.in_ok-held.ensures.range c.in_ok-held.ensures.held c.fraction-2.result c.fraction-3.result c.fraction-2.ensures c.fraction-3.ensures in
-    c.held_is_perfect.ensures.law d.nodes (answered d solved) c.args.node c.args.row c.args.state num den moved is.graph (c.answers_are_best.ensures.answers d solved is.graph is.tables c.requires.answer) at m (λ v k. span.holds num den moved p q m l h v k)
+    c.held_is_perfect.ensures.law d.nodes (answered d solved) c.args.node c.args.state c.args.row num den moved is.graph (c.answers_are_best.ensures.answers d solved is.graph is.tables c.requires.answer) at m (λ v k. span.holds num den moved p q m l h v k)

@@ -9,7 +9,7 @@ use Rattle.tree_checker.proofs.rows.first_fault.Goals as goal
 use Rattle.tree_checker.proofs.rows.first_fault.Goals.{In_default}
 
 here : (c : In_default) → PassesListed c.args.sums.now.gains.items c.args.sums.now.masses.items c.args.states c.args.scale c.loop-place.place (slice_index_or c.args.rows.now c.loop-place.place no_row)
-here c = passes_like _ (gain_in c.args.sums.now.gains.items c.args.states c.loop-place.place) c.args.states _ (pos (slice_index c.args.sums.now.masses.items c.loop-place.place)) _ c.args.scale (slice_index_or c.args.rows.now c.loop-place.place no_row) _
+here c = passes_like _ (λ s. gain_in c.args.sums.now.gains.items c.args.states s c.loop-place.place) c.args.states _ (pos (slice_index c.args.sums.now.masses.items c.loop-place.place)) _ c.args.scale (slice_index_or c.args.rows.now c.loop-place.place no_row) _
     c.row_gains-gains.ensures.count
     (ap pos (c.index.ensures ∙ get_or_default c.args.sums.now.masses.items c.loop-place.place c.index.result.now 0 (subst (λ n. c.loop-place.place < n) (sym c.requires.masses) c.loop-place-test.true)))
     refl

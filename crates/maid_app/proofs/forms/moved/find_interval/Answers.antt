@@ -15,8 +15,8 @@ pub weight_bound-requires : goal.weight_bound-requires
 weight_bound-requires c =
     let d = c.args.diagram.now in
     let place = c.args.place in
-    let found = subst (IsFaultOrNoMemory span_fault (span_pass d place.node (c.args.row - 1) place.state)) c.in-Err-WeightBound.field-0-is c.in-Err-WeightBound.ensures.rows in
-    bound_named d c.args.names.now place.node (c.args.row - 1) place.state c.in-Err-WeightBound.node c.requires.fit (is_node d.nodes place.node c.requires.place.kind) found
+    let found = subst (IsFaultOrNoMemory span_fault (span_pass d place.node place.state (c.args.row - 1))) c.in-Err-WeightBound.field-0-is c.in-Err-WeightBound.ensures.rows in
+    bound_named d c.args.names.now place.node place.state (c.args.row - 1) c.in-Err-WeightBound.node c.requires.fit (is_node d.nodes place.node c.requires.place.kind) found
 
 -- the line tells it
 pub returns-in-Err-WeightBound-clause-err : goal.returns-in-Err-WeightBound-clause-err
@@ -24,7 +24,7 @@ returns-in-Err-WeightBound-clause-err c =
     let d = c.args.diagram.now in
     let names = c.args.names.now in
     let place = c.args.place in
-    let found = subst (IsFaultOrNoMemory span_fault (span_pass d place.node (c.args.row - 1) place.state)) c.in-Err-WeightBound.field-0-is c.in-Err-WeightBound.ensures.rows in
+    let found = subst (IsFaultOrNoMemory span_fault (span_pass d place.node place.state (c.args.row - 1))) c.in-Err-WeightBound.field-0-is c.in-Err-WeightBound.ensures.rows in
     told_gives (moved_pass d names place c.args.row) WeightBound c.weight_bound.result c.told.result
     (if_ok_then c.weight_bound.result (λ t. t.items ≡ bound_line names c.in-Err-WeightBound.node) (λ t. moved_pass d names place c.args.row (Some (refused WeightBound t.items)))
     (λ t e. bound_told d names place c.args.row c.in-Err-WeightBound.node t.items found e)
