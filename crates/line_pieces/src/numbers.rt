@@ -1,9 +1,11 @@
-//! Whole numbers.
+//! Whole numbers and fractions.
 
 ghost use Rattle.std.specs.Prelude.{◌<◌, decimal};
+ghost use Rattle.maid_model.specs.Reports.{ratio_text};
 ghost use Rattle.line_pieces.specs.Pushed.{PushAppends};
 
 use itoa::Buffer;
+use maid_model::Ratio;
 use std::alloc::AllocError;
 
 // Appends a number of one digit.
@@ -25,4 +27,17 @@ pub fn push_number(out: &mut Vec<u8>, number: u128) -> Result<(), AllocError>
     }
     let mut buffer = Buffer::new();
     out.extend_from_slice(buffer.format(number).as_bytes())
+}
+
+/// Appends a whole number, or the numerator, a slash and the denominator.
+pub(crate) fn push_ratio(out: &mut Vec<u8>, ratio: &Ratio) -> Result<(), AllocError>
+    ensures { PushAppends out.old out.new result (ratio_text ratio.now) }
+{
+    let mut buffer = Buffer::new();
+    out.extend_from_slice(buffer.format(ratio.num).as_bytes())?;
+    if ratio.den != 1 {
+        out.push(b'/')?;
+        out.extend_from_slice(buffer.format(ratio.den).as_bytes())?;
+    }
+    Ok(())
 }
