@@ -1,5 +1,5 @@
 -- What is written behind what stands already.
-use Rattle.std.proofs.Common.{Result, Ok, Err, OnOk, ◌≡◌, ◌∙◌, ℕ, zero, suc, ◌+◌, List, ◌++◌, sym, ap, arith, append_assoc, append-nil, add-one}
+use Rattle.std.proofs.Common.{◌≡◌, ◌∙◌, ℕ, zero, suc, ◌+◌, List, ◌++◌, sym, ap, arith, append_assoc, append-nil, add-one}
 use Rattle.std.specs.List.{flat_map, range_with_len}
 
 -- the lines of so many numbers, and those of one more
@@ -28,11 +28,3 @@ lines_next text n old new front step kept =
   where
     start : (n : ℕ) → 0 + n ≡ n
     start n = omega arith
-
--- three pieces of text, one behind the other
-pub three_pieces : {T E : Type 0} (r : Result T E) (old one two new first second third : List ℕ) → one ≡ old ++ first → two ≡ one ++ second → OnOk r (new ≡ two ++ third) → OnOk r (new ≡ old ++ ((first ++ second) ++ third))
-three_pieces (Ok x) old one two new first second third e f h =
-    h
-    ∙ ap (λ text. text ++ third) (f ∙ ap (λ text. text ++ second) e ∙ append_assoc old first second)
-    ∙ append_assoc old (first ++ second) third
-three_pieces (Err x) old one two new first second third e f h = h

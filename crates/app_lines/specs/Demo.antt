@@ -2,15 +2,6 @@
 use Rattle.std.specs.Prelude.{ℕ, ◌-◌, ◌==◌, List, ◌++◌, codes, decimal, if◌then◌else◌}
 use Rattle.std.specs.List.{flat_map, range_with_len}
 
--- a text with one number in it
-abbrev pub with_one : List ℕ → ℕ → List ℕ → List ℕ
-with_one before number behind = before ++ decimal number ++ behind
-
--- a text with two numbers in it
-abbrev pub with_two : List ℕ → ℕ → List ℕ → ℕ → List ℕ → List ℕ
-with_two before first between second behind =
-    before ++ decimal first ++ between ++ decimal second ++ behind
-
 -- the node block of a stage's state
 abbrev pub state_block : ℕ → List ℕ
 state_block i = codes "node X" ++ decimal i ++ codes " { states = (\"s1\" \"s2\"); }\n"

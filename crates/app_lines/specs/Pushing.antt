@@ -1,11 +1,10 @@
 -- What the steps of printing append: each says what stands behind the text once its call has ended well.
-use Rattle.std.specs.Prelude.{ℕ, List, Result}
+use Rattle.std.specs.Prelude.{ℕ, Result}
 use Rattle.std.specs.Global.{Vec}
 use Rattle.line_pieces.specs.Pushed.{PushAppends}
 use Rattle.maid_model.specs.Views.{DiagramView, AnswerView}
 use Rattle.maid_model.specs.Names.{NamesView}
 use Rattle.app_lines.specs.Choices.{choice_line, decision_choices}
-use Rattle.app_lines.specs.Demo.{with_two}
 
 -- the line of one row's choice
 abbrev pub PushesChoice : {R E : Type 0} → DiagramView → NamesView → ℕ → ℕ → ℕ → Vec ℕ → Vec ℕ
@@ -18,9 +17,3 @@ abbrev pub PushesChoices : {R E : Type 0} → DiagramView → NamesView → Answ
     → Result R E → Type 0
 PushesChoices d names answer before now result =
     PushAppends before now result (decision_choices d.nodes names answer)
-
--- a piece of text with two numbers in it
-abbrev pub PushesTwo : {R E : Type 0} → List ℕ → ℕ → List ℕ → ℕ → List ℕ → Vec ℕ → Vec ℕ
-    → Result R E → Type 0
-PushesTwo front first between second behind before now result =
-    PushAppends before now result (with_two front first between second behind)

@@ -30,8 +30,7 @@ fn push_choice(
 {
     push_row_front(out, diagram, names, decision, rows, number)?;
     push_state(out, diagram, names, decision, choice)?;
-    out.push(b'\n')?;
-    Ok(())
+    out.extend_from_slice(b"\n")
 }
 
 // Appends the line of a decision, and a line for each row.

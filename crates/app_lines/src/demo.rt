@@ -1,73 +1,51 @@
 //! The text of the generated diagram: stages of a state, a decision and a utility, each state but the first behind the
 //! state and the decision before it.
 
-ghost use Rattle.std.specs.Prelude.{◌≡◌, ◌<◌, ◌-◌, ◌++◌, IfOk, decimal};
-ghost use Rattle.app_lines.specs.Demo.{state_block, choice_block, worth_block, stage_blocks, later_potential, state_potential, choice_potential, worth_potential, stage_potentials, demo_text, blocks_of, potentials_of, with_one};
-ghost use Rattle.app_lines.specs.Pushing.{PushesTwo};
+ghost use Rattle.std.specs.Prelude.{◌≡◌, ◌<◌, IfOk};
+ghost use Rattle.app_lines.specs.Demo.{state_block, choice_block, worth_block, stage_blocks, later_potential, state_potential, choice_potential, worth_potential, stage_potentials, demo_text, blocks_of, potentials_of};
 ghost use Rattle.line_pieces.specs.Pushed.{PushAppends};
 
-use line_pieces::push_number;
+use line_pieces::Piece::{Number, Text};
+use line_pieces::push_pieces;
 use std::alloc::{AllocError, Global};
-
-// Appends a text and a number behind it.
-fn push_numbered(out: &mut Vec<u8>, before: &[u8], number: usize) -> Result<(), AllocError>
-    ensures { PushAppends out.old out.new result (before.now ++ decimal number) }
-{
-    out.extend_from_slice(before)?;
-    push_number(out, number as u128)
-}
-
-// Appends a piece of text with one number in it.
-#[tactic(auto, using(std::proofs::Common::append_assoc))]
-fn push_one(
-    out: &mut Vec<u8>,
-    before: &[u8],
-    number: usize,
-    behind: &[u8],
-) -> Result<(), AllocError>
-    ensures { PushAppends out.old out.new result (with_one before.now number behind.now) }
-{
-    push_numbered(out, before, number)?;
-    out.extend_from_slice(behind)
-}
-
-// Appends a piece of text with two numbers in it.
-#[tactic(auto, using(std::proofs::Common::append_assoc))]
-fn push_two(
-    out: &mut Vec<u8>,
-    before: &[u8],
-    first: usize,
-    between: &[u8],
-    second: usize,
-    behind: &[u8],
-) -> Result<(), AllocError>
-    ensures { PushesTwo before.now first between.now second behind.now out.old out.new result }
-{
-    push_numbered(out, before, first)?;
-    push_one(out, between, second, behind)
-}
 
 fn push_state_block(out: &mut Vec<u8>, stage: usize) -> Result<(), AllocError>
     ensures { PushAppends out.old out.new result (state_block stage) }
 {
-    push_one(out, b"node X", stage, b" { states = (\"s1\" \"s2\"); }\n")
+    push_pieces(
+        out,
+        &[
+            Text(b"node X"),
+            Number(stage as u128),
+            Text(b" { states = (\"s1\" \"s2\"); }\n"),
+        ],
+    )
 }
 
 fn push_choice_block(out: &mut Vec<u8>, stage: usize) -> Result<(), AllocError>
     ensures { PushAppends out.old out.new result (choice_block stage) }
 {
-    push_one(
+    push_pieces(
         out,
-        b"decision D",
-        stage,
-        b" { states = (\"stay\" \"flip\"); agent = \"agent\"; }\n",
+        &[
+            Text(b"decision D"),
+            Number(stage as u128),
+            Text(b" { states = (\"stay\" \"flip\"); agent = \"agent\"; }\n"),
+        ],
     )
 }
 
 fn push_worth_block(out: &mut Vec<u8>, stage: usize) -> Result<(), AllocError>
     ensures { PushAppends out.old out.new result (worth_block stage) }
 {
-    push_one(out, b"utility U", stage, b" { agent = \"agent\"; }\n")
+    push_pieces(
+        out,
+        &[
+            Text(b"utility U"),
+            Number(stage as u128),
+            Text(b" { agent = \"agent\"; }\n"),
+        ],
+    )
 }
 
 #[tactic(auto, using(std::proofs::Common::append_assoc))]
@@ -84,10 +62,19 @@ fn push_later_potential(out: &mut Vec<u8>, stage: usize) -> Result<(), AllocErro
     requires { 0 < stage }
     ensures { PushAppends out.old out.new result (later_potential stage) }
 {
-    let before = stage - 1;
-    push_two(out, b"potential (X", stage, b" | X", before, b" D")?;
-    push_number(out, before as u128)?;
-    out.extend_from_slice(b") { data = (1 0 1 1 0 1 1 1); }\n")
+    let before = stage as u128 - 1;
+    push_pieces(
+        out,
+        &[
+            Text(b"potential (X"),
+            Number(stage as u128),
+            Text(b" | X"),
+            Number(before),
+            Text(b" D"),
+            Number(before),
+            Text(b") { data = (1 0 1 1 0 1 1 1); }\n"),
+        ],
+    )
 }
 
 fn push_state_potential(out: &mut Vec<u8>, stage: usize) -> Result<(), AllocError>
@@ -103,19 +90,30 @@ fn push_state_potential(out: &mut Vec<u8>, stage: usize) -> Result<(), AllocErro
 fn push_choice_potential(out: &mut Vec<u8>, stage: usize) -> Result<(), AllocError>
     ensures { PushAppends out.old out.new result (choice_potential stage) }
 {
-    push_two(out, b"potential (D", stage, b" | X", stage, b") { }\n")
+    push_pieces(
+        out,
+        &[
+            Text(b"potential (D"),
+            Number(stage as u128),
+            Text(b" | X"),
+            Number(stage as u128),
+            Text(b") { }\n"),
+        ],
+    )
 }
 
 fn push_worth_potential(out: &mut Vec<u8>, stage: usize) -> Result<(), AllocError>
     ensures { PushAppends out.old out.new result (worth_potential stage) }
 {
-    push_two(
+    push_pieces(
         out,
-        b"potential (U",
-        stage,
-        b" | X",
-        stage,
-        b") { data = (1 0); }\n",
+        &[
+            Text(b"potential (U"),
+            Number(stage as u128),
+            Text(b" | X"),
+            Number(stage as u128),
+            Text(b") { data = (1 0); }\n"),
+        ],
     )
 }
 

@@ -4,6 +4,8 @@ ghost use Rattle.std.specs.Prelude.{◌≡◌, ◌<◌, IfOk, length};
 ghost use Rattle.app_lines.specs.Removed.{AreNamed, removed_line, removed_lines};
 ghost use Rattle.line_pieces.specs.Pushed.{PushAppends};
 
+use line_pieces::Piece::Text;
+use line_pieces::push_pieces;
 use maid_model::Names;
 use std::alloc::{AllocError, Global};
 
@@ -13,12 +15,16 @@ fn push_removed(out: &mut Vec<u8>, names: &Names, from: usize, to: usize) -> Res
     requires to { to < length names.now.nodes }
     ensures { PushAppends out.old out.new result (removed_line names.now (from, to)) }
 {
-    out.extend_from_slice(b"% removed ")?;
-    out.extend_from_slice(names.name(from))?;
-    out.extend_from_slice(b" -> ")?;
-    out.extend_from_slice(names.name(to))?;
-    out.push(b'\n')?;
-    Ok(())
+    push_pieces(
+        out,
+        &[
+            Text(b"% removed "),
+            Text(names.name(from)),
+            Text(b" -> "),
+            Text(names.name(to)),
+            Text(b"\n"),
+        ],
+    )
 }
 
 /// For each arc, which leads from its first node to its second, the line `% removed FROM -> TO`, in their order. A text

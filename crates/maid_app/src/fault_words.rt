@@ -7,7 +7,8 @@ ghost use Rattle.maid_app.specs.Faults.{limit_words, count_words, cycle_words, p
 ghost use Rattle.maid_app.specs.Words.{node_titles, tokens_bytes, AreBlockNames, AreCycleWords, AreKindWords, cycle_names_in};
 ghost use Rattle.line_pieces.specs.Pushed.{PushAppends};
 
-use line_pieces::push_number;
+use line_pieces::Piece::{Number, Text};
+use line_pieces::joined;
 use net_build::{BuildKind, Limit};
 use net_lexer::Token;
 use net_parser::{Block, BlockKind, Syntax};
@@ -103,21 +104,29 @@ fn cycle_words(
 fn count_words(alloc: Global, want: usize, got: usize) -> Result<Vec<u8>, AllocError>
     ensures { IfOk result (λ words. words.items ≡ count_words want got) }
 {
-    let mut words = Vec::from_slice(alloc, b"wrong count: want ")?;
-    push_number(&mut words, want as u128)?;
-    words.extend_from_slice(b" got ")?;
-    push_number(&mut words, got as u128)?;
-    Ok(words)
+    joined(
+        alloc,
+        &[
+            Text(b"wrong count: want "),
+            Number(want as u128),
+            Text(b" got "),
+            Number(got as u128),
+        ],
+    )
 }
 
 // The words of a limit that is passed.
 fn passed_words(alloc: Global, which: Limit, got: u128) -> Result<Vec<u8>, AllocError>
     ensures { IfOk result (λ words. words.items ≡ passed_words which got) }
 {
-    let mut words = Vec::from_slice(alloc, b"limit passed: ")?;
-    words.extend_from_slice(limit_words(which))?;
-    push_number(&mut words, got)?;
-    Ok(words)
+    joined(
+        alloc,
+        &[
+            Text(b"limit passed: "),
+            Text(limit_words(which)),
+            Number(got),
+        ],
+    )
 }
 
 /// What is wrong with the tree of the text.

@@ -11,7 +11,8 @@ ghost use Rattle.line_pieces.specs.Pushed.{PushAppends};
 ghost use Rattle.net_print.specs.NodeTexts.{owners_text_of};
 
 use crate::pieces::push_gap;
-use line_pieces::push_quoted;
+use line_pieces::Piece::{Quoted, Text};
+use line_pieces::{push_pieces, push_quoted};
 use maid_model::{Diagram, Kind, Names};
 use std::alloc::AllocError;
 
@@ -68,9 +69,7 @@ fn push_states(
 fn push_agent(out: &mut Vec<u8>, agent: &[u8]) -> Result<(), AllocError>
     ensures { PushAppends out.old out.new result (agent_text agent.now) }
 {
-    out.extend_from_slice(b"agent = ")?;
-    push_quoted(out, agent)?;
-    out.extend_from_slice(b"; ")
+    push_pieces(out, &[Text(b"agent = "), Quoted(agent), Text(b"; ")])
 }
 
 // Appends the agents of these numbers, each behind a space.
@@ -96,8 +95,7 @@ fn push_agents(
     requires { All (λ a. a < length names.now.agents) others.now }
     ensures { PushAppends out.old out.new result (agents_text names.now first.now others.now) }
 {
-    out.extend_from_slice(b"agents = (")?;
-    push_quoted(out, first)?;
+    push_pieces(out, &[Text(b"agents = ("), Quoted(first)])?;
     push_others(out, names, others)?;
     out.extend_from_slice(b"); ")
 }
@@ -158,10 +156,15 @@ fn push_block(
     requires node { node < length diagram.now.nodes }
     ensures { PushAppends out.old out.new result (node_line diagram.now.nodes names.now node) }
 {
-    out.extend_from_slice(kind_word(diagram.kind(node)))?;
-    out.push(b' ')?;
-    out.extend_from_slice(names.name(node))?;
-    out.extend_from_slice(b" { ")?;
+    push_pieces(
+        out,
+        &[
+            Text(kind_word(diagram.kind(node))),
+            Text(b" "),
+            Text(names.name(node)),
+            Text(b" { "),
+        ],
+    )?;
     push_attributes(out, diagram, names, node)?;
     out.extend_from_slice(b"}\n")
 }

@@ -1,5 +1,5 @@
 -- Decimal digits of up to 128 bits, and back.
-use Rattle.std.proofs.Common.{◌≡◌, ◌≢◌, ℕ, zero, suc, ◌+◌, ◌<◌, ◌≤◌, ◌^◌, List, [], ◌∷◌, ◌++◌, length, drop, get_or, Bool, true, Result, Ok, Option, None, Some, refl, sym, ◌∙◌, ap, subst, arith, eqb, not, tests, cond}
+use Rattle.std.proofs.Common.{◌≡◌, ◌≢◌, ℕ, zero, suc, ◌<◌, ◌≤◌, ◌^◌, List, [], ◌∷◌, drop, true, Result, Ok, Option, None, Some, refl, sym, ◌∙◌, ap, subst, arith}
 use lib.IntN.{neg_ℤ}
 use Rattle.std.specs.Prelude.{ℤ, pos, negsuc, decimal, IfNone, FitsSigned}
 use Rattle.std.specs.Int.{w128}
@@ -10,7 +10,7 @@ use Rattle.std.proofs.lemmas.Str.{IsUtf8-from_ascii}
 use Rattle.std.specs.Str.Parse.{AllDigits, ParsesSigned, ParsesUnsigned, digits_value}
 use Rattle.std.proofs.lemmas.Fmt.{decimal_is_IsNumeral_wide, parse-decimal_wide, IsAscii-decimal_wide}
 use Rattle.std.proofs.lemmas.Str.Parse.{digit_from_value, numerals_by_value, tells_digits, parse_signed_digits, parse_signed_minus}
-use Rattle.report_text.specs.Slots.{lacks, den_text}
+use Rattle.report_text.specs.Slots.{lacks}
 use Rattle.report_text.proofs.OneCut.{lacks_from}
 
 -- 128 bits have no more than 39 digits

@@ -1,9 +1,8 @@
 -- Where bytes are cut: one front has no such byte, and the others begin with it.
-use Rattle.std.proofs.Common.{◌≡◌, ◌≢◌, ℕ, ◌+◌, suc, List, [], ◌∷◌, ◌++◌, length, take, drop, Bool, true, false, not, cond, eqb, refl, sym, ◌∙◌, ap, one-add, arith, tests}
-use Rattle.std.specs.List.{prefix_len, list_all}
+use Rattle.std.proofs.Common.{◌≡◌, ◌≢◌, ℕ, ◌+◌, List, [], ◌∷◌, ◌++◌, take, drop, Bool, true, false, not, cond, eqb, refl, sym, ◌∙◌, one-add, arith, tests}
+use Rattle.std.specs.List.{prefix_len}
 use Rattle.std.proofs.lemmas.Bool.{and_parts}
 use Rattle.std.proofs.lemmas.List.{take-append-drop}
-use Rattle.std.proofs.lemmas.List.Folds.{list_all-append}
 use Rattle.report_text.specs.Slots.{lacks, IsEndOr, IsFront}
 
 -- a test of numbers, and what it tells

@@ -1,5 +1,5 @@
 -- A report as a list of lines, each of which may stand at its place; and lines at all places are a report's.
-use Rattle.std.proofs.Common.{◌≡◌, ℕ, zero, suc, ◌+◌, ◌<◌, List, [], ◌∷◌, ◌++◌, map, length, get_or, take, true, refl, sym, ◌∙◌, ap, subst, arith, append_assoc}
+use Rattle.std.proofs.Common.{◌≡◌, ℕ, zero, suc, ◌+◌, List, [], ◌∷◌, ◌++◌, map, length, true, refl, sym, ◌∙◌, ap, subst, append_assoc}
 use Rattle.std.specs.Prelude.{All, codes}
 use Rattle.std.specs.List.{flat_map}
 use Rattle.std.proofs.lemmas.List.{append-nil}
@@ -9,9 +9,9 @@ use Rattle.maid_model.specs.declared.answers.Row.{Row}
 use Rattle.maid_model.specs.Views.{NodeView, DiagramView, AnswerView, SolvedView}
 use Rattle.maid_model.specs.Names.{NamesView}
 use Rattle.maid_model.specs.Nodes.{rows_of}
-use Rattle.maid_model.specs.Reports.{decision_head, decision_lines, gain_line, gain_lines, line, names_line, report, row_line, row_lines}
+use Rattle.maid_model.specs.Reports.{decision_head, decision_lines, gain_line, gain_lines, line, report, row_line, row_lines}
 use Rattle.report_text.specs.Reading.{AreTold, FitsRatio, lines_of}
-use Rattle.report_text.specs.Slots.{Slot, Told, OfRow, OfGain, End, Shows, IsRead, IsRow, answer_slots, decision_words, gain_slots, gain_words, lacks, lines_behind, order_words, row_slots, row_words}
+use Rattle.report_text.specs.Slots.{Slot, Shows, IsRead, IsRow, answer_slots, decision_words, gain_slots, gain_words, lacks, lines_behind, order_words, row_slots, row_words}
 use Rattle.report_text.proofs.OneLine.{decision_line, gain_one_line, order_line, row_one_line}
 use Rattle.report_text.proofs.Stops.{lines_line}
 use Rattle.report_text.proofs.Unended.{gain_line_is, row_line_is}

@@ -7,7 +7,7 @@ use Rattle.maid_model.specs.Views.{NodeView}
 use Rattle.maid_model.specs.Names.{NamesView, label_of}
 use Rattle.maid_model.specs.Nodes.{parents_of, states_of}
 use Rattle.maid_model.specs.Reports.{gain_line, line, parent_states, quoted, row_line, state_labels, worth_text}
-use Rattle.report_text.specs.Slots.{Slot, Told, OfRow, OfGain, Shows, lacks, row_words, gain_words}
+use Rattle.report_text.specs.Slots.{Told, OfRow, OfGain, Shows, lacks, row_words, gain_words}
 use Rattle.report_text.proofs.Stops.{ended_has}
 
 regroup : (a b c d e f : List ℕ) → (a ++ (b ++ c ++ d ++ e)) ++ f ≡ ((a ++ b) ++ ((c ++ d) ++ e)) ++ f

@@ -8,13 +8,11 @@ mod lines;
 mod next_lines;
 mod numbers;
 mod orders;
-mod pieces;
 mod reading;
 mod report;
 mod row_runs;
 mod value_lines;
 
 pub use laws::reports_read_one_way;
-pub use pieces::print_ratio;
 pub use reading::{ReportFault, read_report};
 pub use report::{print_report, push_gains, push_head, push_row, push_row_front, push_state};

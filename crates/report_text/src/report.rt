@@ -11,9 +11,9 @@ ghost use Rattle.report_text.specs.Runs.{HasLabels};
 ghost use Rattle.report_text.specs.Pushing.{PushesAnswer, PushesAnswers, PushesHead, PushesLabels, PushesRow, PushesRowFront, PushesWords};
 ghost use Rattle.line_pieces.specs.Pushed.{PushAppends};
 
-use crate::pieces::push_ratio;
 use crate::row_runs::push_rows;
-use line_pieces::{push_names, push_number, push_quoted};
+use line_pieces::Piece::{Fraction, Number, Quoted, Text};
+use line_pieces::{push_names, push_number, push_pieces, push_quoted};
 use maid_model::{Answer, Diagram, Names, Ratio, Row, Solved};
 use std::alloc::{AllocError, Global};
 
@@ -83,10 +83,7 @@ pub(crate) fn push_worth(out: &mut Vec<u8>, worth: &Option<Ratio>) -> Result<(),
     ensures { PushAppends out.old out.new result (worth_text worth.now) }
 {
     match worth {
-        Some(worth) => {
-            out.extend_from_slice(b" = ")?;
-            push_ratio(out, worth)
-        }
+        Some(worth) => push_pieces(out, &[Text(b" = "), Fraction(worth)]),
         None => out.extend_from_slice(b" never"),
     }
 }
@@ -124,9 +121,10 @@ pub fn push_row_front(
     requires number { number < rows }
     ensures { PushesRowFront diagram.now names.now decision number out.old out.new result }
 {
-    out.extend_from_slice(b"row ")?;
-    push_number(out, number as u128 + 1)?;
-    out.push(b':')?;
+    push_pieces(
+        out,
+        &[Text(b"row "), Number(number as u128 + 1), Text(b":")],
+    )?;
     push_states(
         out,
         diagram,
@@ -159,8 +157,7 @@ pub fn push_row(
     push_row_front(out, diagram, names, decision, rows, number)?;
     push_state(out, diagram, names, decision, row.choice)?;
     push_worth(out, &row.worth)?;
-    out.push(b'\n')?;
-    Ok(())
+    out.extend_from_slice(b"\n")
 }
 
 // Appends the line of a decision, and a line for each row.
@@ -210,11 +207,16 @@ pub(crate) fn push_decision_words(
     requires decision { IsDecision diagram.now.nodes decision }
     ensures { PushesWords diagram.now names.now decision out.old out.new result }
 {
-    out.extend_from_slice(b"decision ")?;
-    out.extend_from_slice(names.name(decision))?;
-    out.extend_from_slice(b" by ")?;
-    push_quoted(out, names.agent(diagram.agent_of(decision)))?;
-    out.extend_from_slice(b" sees")?;
+    push_pieces(
+        out,
+        &[
+            Text(b"decision "),
+            Text(names.name(decision)),
+            Text(b" by "),
+            Quoted(names.agent(diagram.agent_of(decision))),
+            Text(b" sees"),
+        ],
+    )?;
     push_names(out, names, parents_of(diagram, decision))
 }
 
@@ -231,8 +233,7 @@ pub fn push_head(
     ensures { PushesHead diagram.now names.now decision out.old out.new result }
 {
     push_decision_words(out, diagram, names, decision)?;
-    out.push(b'\n')?;
-    Ok(())
+    out.extend_from_slice(b"\n")
 }
 
 /// Appends the line of what the plan is worth to an agent, up to the number.
@@ -245,9 +246,10 @@ pub(crate) fn push_gain_front(
     requires { agent < length names.now.agents }
     ensures { PushAppends out.old out.new result (gain_front names.now agent) }
 {
-    out.extend_from_slice(b"agent ")?;
-    push_quoted(out, names.agent(agent))?;
-    out.extend_from_slice(b" = ")
+    push_pieces(
+        out,
+        &[Text(b"agent "), Quoted(names.agent(agent)), Text(b" = ")],
+    )
 }
 
 // Appends that line.
@@ -257,9 +259,7 @@ fn push_gain(out: &mut Vec<u8>, names: &Names, agent: usize, gain: &Ratio) -> Re
     ensures { PushAppends out.old out.new result (gain_line names.now agent gain.now) }
 {
     push_gain_front(out, names, agent)?;
-    push_ratio(out, gain)?;
-    out.push(b'\n')?;
-    Ok(())
+    push_pieces(out, &[Fraction(gain), Text(b"\n")])
 }
 
 /// Appends a line for each agent: what the plan is worth to it.
@@ -281,8 +281,7 @@ fn push_order(out: &mut Vec<u8>, names: &Names, order: &[usize]) -> Result<(), A
 {
     out.extend_from_slice(b"order:")?;
     push_names(out, names, order)?;
-    out.push(b'\n')?;
-    Ok(())
+    out.extend_from_slice(b"\n")
 }
 
 /// The report of the answered diagram: the order of solving, for each decision in that order a line for each choice of

@@ -9,7 +9,8 @@ ghost use Rattle.report_text.specs.Runs.{HasLabels, HasRowsUnder, PushesRun, row
 ghost use Rattle.report_text.specs.Pushing.{PushesLabelled, PushesRows};
 
 use crate::report::{parents_of, push_label, push_state, push_worth, states_of};
-use line_pieces::push_number;
+use line_pieces::Piece::{Number, Text};
+use line_pieces::push_pieces;
 use maid_model::{Answer, Diagram, Names, Row};
 use std::alloc::AllocError;
 
@@ -38,15 +39,19 @@ fn push_labelled(
     requires choice { row.now.choice < states_of diagram.now.nodes decision }
     ensures { PushesLabelled names.now decision labels.now number row.now out.old out.new result }
 {
-    out.extend_from_slice(b"row ")?;
-    push_number(out, number as u128 + 1)?;
-    out.push(b':')?;
-    out.extend_from_slice(labels)?;
-    out.extend_from_slice(b" -> ")?;
+    push_pieces(
+        out,
+        &[
+            Text(b"row "),
+            Number(number as u128 + 1),
+            Text(b":"),
+            Text(labels),
+            Text(b" -> "),
+        ],
+    )?;
     push_state(out, diagram, names, decision, row.choice)?;
     push_worth(out, &row.worth)?;
-    out.push(b'\n')?;
-    Ok(())
+    out.extend_from_slice(b"\n")
 }
 
 /// The list without its first element.

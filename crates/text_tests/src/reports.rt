@@ -1,22 +1,13 @@
-//! Tests of `report_text`: fractions as text, and a report read and printed back.
+//! Tests of `report_text`: a report read and printed back.
 
 ghost use Rattle.maid_model.specs.Names.{NamesFit};
 ghost use Rattle.report_text.specs.Reading.{AreTold};
 
 use crate::samples::{tie_diagram, tie_names};
 use maid_model::{Diagram, Names, Ratio, Row, Solved};
-use report_text::{ReportFault, print_ratio, print_report, read_report};
+use report_text::{ReportFault, print_report, read_report};
 use std::alloc::Global;
 use std::test::Fail;
-
-#[test]
-fn fractions_are_printed(rt: HostRuntime) -> Result<(), Fail> {
-    for (num, den, want) in [(3, 1, "3"), (-7, 2, "-7/2"), (0, 1, "0")] {
-        let text = print_ratio(rt.alloc(), &Ratio { num, den })?;
-        assert_eq!(rt; text.as_slice(), want.as_bytes(), "{want}");
-    }
-    Ok(())
-}
 
 const REPORT: &[u8] =
     b"maidsolve report 1\norder: D\ndecision D by \"agent\" sees\nrow 1: -> 2 \"y\" = -5/2\nagent \"agent\" = 5\n";

@@ -14,10 +14,10 @@ use super::solve::solve_diagram;
 use crate::reading::Source;
 use crate::refusal::{Refusal, told};
 use crate::{Status, lines};
-use line_pieces::{push_names, push_quoted};
+use line_pieces::Piece::{Fraction, Quoted, Text};
+use line_pieces::{joined, push_names, push_pieces};
 use maid_model::{Diagram, Names, Solved};
 use optimum_gap::Found;
-use report_text::print_ratio;
 use std::alloc::{AllocError, Global};
 
 /// What is asked of one agent of a solved diagram.
@@ -68,31 +68,19 @@ pub fn ask(alloc: Global, source: Source<'_>, agent: &str) -> Result<Asked, Refu
 }
 
 /// The first line: what is asked, and of which agent.
-pub fn asked_line(alloc: Global, word: &[u8], agent: &[u8]) -> Result<Vec<u8>, AllocError>
+pub fn asked_line<'a>(alloc: Global, word: &'a [u8], agent: &'a [u8]) -> Result<Vec<u8>, AllocError>
     ensures { IfOk result (λ text. text.items ≡ asked_line word.now agent.now) }
 {
-    let mut text = Vec::from_slice(alloc, word)?;
-    text.push(b' ')?;
-    push_quoted(&mut text, agent)?;
-    text.push(b'\n')?;
-    Ok(text)
+    joined(alloc, &[Text(word), Text(b" "), Quoted(agent), Text(b"\n")])
 }
 
 /// Appends what an edit is worth, or why no value stands there.
-pub fn push_found(
-    alloc: Global,
-    out: &mut Vec<u8>,
-    names: &Names,
-    found: &Found,
-) -> Result<(), AllocError>
+pub fn push_found(out: &mut Vec<u8>, names: &Names, found: &Found) -> Result<(), AllocError>
     requires { AreKnown (length names.now.nodes) (cycle_told found.now) }
     ensures { PushAppends out.old out.new result (found_words names.now found.now) }
 {
     match found {
-        Found::Value(worth) => {
-            out.extend_from_slice(b"value ")?;
-            out.extend_from_slice(&print_ratio(alloc, worth)?)
-        }
+        Found::Value(worth) => push_pieces(out, &[Text(b"value "), Fraction(worth)]),
         Found::Worthless => out.extend_from_slice(b"worthless"),
         Found::Cycle(list) => {
             out.extend_from_slice(b"cycle")?;

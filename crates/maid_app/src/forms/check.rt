@@ -13,7 +13,8 @@ use crate::output::Output;
 use crate::reading::Source;
 use crate::refusal::{Refusal, told};
 use crate::{Status, lines};
-use line_pieces::push_number;
+use line_pieces::Piece::{Number, Text};
+use line_pieces::joined;
 use maid_model::{Diagram, MOST_LEAVES, Names};
 use report_text::{ReportFault, read_report};
 use std::alloc::{AllocError, Global};
@@ -76,12 +77,16 @@ fn cause_words(cause: Cause) -> &'static [u8]
 fn rejection(alloc: Global, line: usize, cause: Cause) -> Result<Vec<u8>, AllocError>
     ensures { IfOk result (λ text. text.items ≡ verdict_line (Verdict.Rejected line cause)) }
 {
-    let mut text = Vec::from_slice(alloc, b"rejected line ")?;
-    push_number(&mut text, line as u128)?;
-    text.extend_from_slice(b": ")?;
-    text.extend_from_slice(cause_words(cause))?;
-    text.push(b'\n')?;
-    Ok(text)
+    joined(
+        alloc,
+        &[
+            Text(b"rejected line "),
+            Number(line as u128),
+            Text(b": "),
+            Text(cause_words(cause)),
+            Text(b"\n"),
+        ],
+    )
 }
 
 // The verdict as a line, with the status that it ends a run with.

@@ -10,6 +10,8 @@ use super::asking::{ask, asked_line, push_found};
 use crate::reading::Source;
 use crate::refusal::Refusal;
 use control_incentive::{ControlLine, control};
+use line_pieces::Piece::Text;
+use line_pieces::push_pieces;
 use maid_model::Names;
 use std::alloc::{AllocError, Global};
 
@@ -21,22 +23,21 @@ fn flag(holds: bool, words: &[u8]) -> &[u8]
 }
 
 // Appends the line of a chance node.
-fn push_line(
-    alloc: Global,
-    out: &mut Vec<u8>,
-    names: &Names,
-    line: &ControlLine,
-) -> Result<(), AllocError>
+fn push_line(out: &mut Vec<u8>, names: &Names, line: &ControlLine) -> Result<(), AllocError>
     requires { AreKnown (length names.now.nodes) (control_nodes line.now) }
     ensures { PushAppends out.old out.new result (control_line names.now line.now) }
 {
-    out.extend_from_slice(names.name(line.node))?;
-    out.extend_from_slice(flag(line.response, b" response"))?;
-    out.extend_from_slice(flag(line.instrumental, b" instrumental"))?;
-    out.extend_from_slice(b": ")?;
-    push_found(alloc, out, names, &line.found)?;
-    out.push(b'\n')?;
-    Ok(())
+    push_pieces(
+        out,
+        &[
+            Text(names.name(line.node)),
+            Text(flag(line.response, b" response")),
+            Text(flag(line.instrumental, b" instrumental")),
+            Text(b": "),
+        ],
+    )?;
+    push_found(out, names, &line.found)?;
+    out.extend_from_slice(b"\n")
 }
 
 // The first line, and then one for each chance node.
@@ -51,7 +52,7 @@ fn control_text(
 {
     let mut text = asked_line(alloc, b"control", agent)?;
     for line in lines {
-        push_line(alloc, &mut text, names, line)?;
+        push_line(&mut text, names, line)?;
     }
     Ok(text)
 }

@@ -9,7 +9,8 @@ use super::solve::solved;
 use crate::reading::Source;
 use crate::refusal::Refusal;
 use app_lines::gain_lines;
-use line_pieces::push_number;
+use line_pieces::Piece::{Number, Text};
+use line_pieces::joined;
 use maid_model::{Diagram, Names, Ratio, Solved};
 use std::alloc::{AllocError, Global};
 
@@ -24,13 +25,18 @@ fn summary(
     requires { length solved.now.gains ≡ length names.now.agents }
     ensures { IfOk result (λ text. text.items ≡ summary k diagram.now names.now solved.now) }
 {
-    let mut text = Vec::from_slice(alloc, b"demo ")?;
-    push_number(&mut text, k as u128)?;
-    text.extend_from_slice(b"\nnodes ")?;
-    push_number(&mut text, diagram.count() as u128)?;
-    text.push(b'\n')?;
-    text.extend_from_slice(&gain_lines(alloc, names, &solved.gains)?)?;
-    Ok(text)
+    let gains = gain_lines(alloc, names, &solved.gains)?;
+    joined(
+        alloc,
+        &[
+            Text(b"demo "),
+            Number(k as u128),
+            Text(b"\nnodes "),
+            Number(diagram.count() as u128),
+            Text(b"\n"),
+            Text(&gains),
+        ],
+    )
 }
 
 /// The summary of the solved diagram of the generated text of `k` stages, which is the bytes. It is solved as that of

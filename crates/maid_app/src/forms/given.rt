@@ -14,7 +14,8 @@ use crate::refusal::{Refusal, told};
 use crate::{Status, lines};
 use app_lines::{gain_lines, list_line};
 use evidence::{Conditioned, GivenFault, given};
-use line_pieces::push_quoted;
+use line_pieces::Piece::{Quoted, Text};
+use line_pieces::joined;
 use maid_model::{Answer, Diagram, Names, Row};
 use report_text::{push_head, push_row};
 use std::alloc::{AllocError, Global};
@@ -172,13 +173,18 @@ fn given_front(
     ensures { IfOk result (λ text.
         text.items ≡ given_front names.now place order.now) }
 {
-    let mut text = Vec::from_slice(alloc, b"maidsolve given 1\ngiven ")?;
-    text.extend_from_slice(names.name(place.node))?;
-    text.extend_from_slice(b" = ")?;
-    push_quoted(&mut text, names.label(place.node, place.state))?;
-    text.push(b'\n')?;
-    text.extend_from_slice(&list_line(alloc, names, b"order:", order)?)?;
-    Ok(text)
+    let order = list_line(alloc, names, b"order:", order)?;
+    joined(
+        alloc,
+        &[
+            Text(b"maidsolve given 1\ngiven "),
+            Text(names.name(place.node)),
+            Text(b" = "),
+            Quoted(names.label(place.node, place.state)),
+            Text(b"\n"),
+            Text(&order),
+        ],
+    )
 }
 
 // These, the decisions with what they see of the evidence, and the agents' lines.

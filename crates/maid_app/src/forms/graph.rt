@@ -11,13 +11,14 @@ ghost use Rattle.maid_app.specs.GraphLines.{PushesReliesLine, PushesReliesLines}
 use crate::reading::Source;
 use crate::refusal::Refusal;
 use app_lines::list_line;
+use line_pieces::Piece::Text;
+use line_pieces::{push_names, push_pieces};
 use maid_model::{Diagram, Kind, Names};
 use relevance_graph::{Relevance, find_relevance};
 use std::alloc::{AllocError, Global};
 
 // Appends a decision's line.
 fn push_decision(
-    alloc: Global,
     out: &mut Vec<u8>,
     names: &Names,
     decision: usize,
@@ -27,15 +28,16 @@ fn push_decision(
     requires relied_on { All (λ v. v < length names.now.nodes) relied_on.now }
     ensures { PushAppends out.old out.new result (relies_line names.now decision relied_on.now) }
 {
-    let mut head = Vec::from_slice(alloc, b"relies ")?;
-    head.extend_from_slice(names.name(decision))?;
-    head.push(b':')?;
-    out.extend_from_slice(&list_line(alloc, names, &head, relied_on)?)
+    push_pieces(
+        out,
+        &[Text(b"relies "), Text(names.name(decision)), Text(b":")],
+    )?;
+    push_names(out, names, relied_on)?;
+    out.extend_from_slice(b"\n")
 }
 
 // Appends the node's line where it is a decision.
 fn push_node(
-    alloc: Global,
     out: &mut Vec<u8>,
     diagram: &Diagram,
     names: &Names,
@@ -48,14 +50,13 @@ fn push_node(
     ensures { PushesReliesLine diagram.now names.now relevance.now v out.old out.new result }
 {
     match diagram.kind(v) {
-        Kind::Decision => push_decision(alloc, out, names, v, relevance.relied_on(v)),
+        Kind::Decision => push_decision(out, names, v, relevance.relied_on(v)),
         _ => Ok(()),
     }
 }
 
 // Appends a line for each decision, in text order.
 fn push_decisions(
-    alloc: Global,
     out: &mut Vec<u8>,
     diagram: &Diagram,
     names: &Names,
@@ -66,7 +67,7 @@ fn push_decisions(
     ensures { PushesReliesLines diagram.now names.now relevance.now out.old out.new result }
 {
     for v in 0..diagram.count() {
-        push_node(alloc, out, diagram, names, relevance, v)?;
+        push_node(out, diagram, names, relevance, v)?;
     }
     Ok(())
 }
@@ -100,7 +101,7 @@ fn graph_text(
     ensures { IfOk result (λ printed. IsGraphText diagram.now names.now printed.items) }
 {
     let mut out = Vec::new(alloc);
-    push_decisions(alloc, &mut out, diagram, names, relevance)?;
+    push_decisions(&mut out, diagram, names, relevance)?;
     out.extend_from_slice(&last_line(alloc, diagram, names, relevance)?)?;
     Ok(out)
 }

@@ -10,27 +10,28 @@ use super::asking::{ask, asked_line, push_found};
 use crate::reading::Source;
 use crate::refusal::Refusal;
 use info_value::{InfoLine, info};
+use line_pieces::Piece::Text;
+use line_pieces::push_pieces;
 use maid_model::Names;
 use std::alloc::{AllocError, Global};
 
 // Appends the line of an arc.
-fn push_line(
-    alloc: Global,
-    out: &mut Vec<u8>,
-    names: &Names,
-    line: &InfoLine,
-) -> Result<(), AllocError>
+fn push_line(out: &mut Vec<u8>, names: &Names, line: &InfoLine) -> Result<(), AllocError>
     requires { AreKnown (length names.now.nodes) (info_nodes line.now) }
     ensures { PushAppends out.old out.new result (info_line names.now line.now) }
 {
-    out.extend_from_slice(if line.has { b"has " } else { b"new " })?;
-    out.extend_from_slice(names.name(line.from))?;
-    out.extend_from_slice(b" -> ")?;
-    out.extend_from_slice(names.name(line.to))?;
-    out.extend_from_slice(b": ")?;
-    push_found(alloc, out, names, &line.found)?;
-    out.push(b'\n')?;
-    Ok(())
+    push_pieces(
+        out,
+        &[
+            Text(if line.has { b"has " } else { b"new " }),
+            Text(names.name(line.from)),
+            Text(b" -> "),
+            Text(names.name(line.to)),
+            Text(b": "),
+        ],
+    )?;
+    push_found(out, names, &line.found)?;
+    out.extend_from_slice(b"\n")
 }
 
 // The first line, and then one for each arc.
@@ -45,7 +46,7 @@ fn info_text(
 {
     let mut text = asked_line(alloc, b"info", agent)?;
     for line in lines {
-        push_line(alloc, &mut text, names, line)?;
+        push_line(&mut text, names, line)?;
     }
     Ok(text)
 }

@@ -17,9 +17,9 @@ use super::solve::solve_diagram;
 use crate::reading::Source;
 use crate::refusal::{Refusal, told};
 use crate::{Status, lines};
-use line_pieces::{push_number, push_quoted};
+use line_pieces::Piece::{Fraction, Number, Quoted, Text};
+use line_pieces::joined;
 use maid_model::{Diagram, Names, Solved};
-use report_text::print_ratio;
 use std::alloc::{AllocError, Global};
 use threshold::{Interval, SpanFault, span};
 
@@ -98,32 +98,36 @@ fn find_interval(
 }
 
 // The node, the row, the state and its probability, and the ends of the interval.
-fn threshold_text(
+fn threshold_text<'a>(
     alloc: Global,
-    names: &Names,
+    names: &'a Names,
     place: StatePlace,
     row: usize,
-    interval: Interval,
+    interval: &'a Interval,
 ) -> Result<Vec<u8>, AllocError>
     requires node { place.node < length names.now.nodes }
     requires labels { place.node < length names.now.labels }
     requires state { place.state < length (labels_of names.now place.node) }
-    ensures { IfOk result (IsThresholdText names.now place row interval) }
+    ensures { IfOk result (IsThresholdText names.now place row interval.entry.now) }
 {
-    let mut text = Vec::from_slice(alloc, b"maidsolve threshold 1\n")?;
-    text.extend_from_slice(names.name(place.node))?;
-    text.extend_from_slice(b" row ")?;
-    push_number(&mut text, row as u128)?;
-    text.extend_from_slice(b": ")?;
-    push_quoted(&mut text, names.label(place.node, place.state))?;
-    text.extend_from_slice(b" = ")?;
-    text.extend_from_slice(&print_ratio(alloc, &interval.now)?)?;
-    text.extend_from_slice(b" from ")?;
-    text.extend_from_slice(&print_ratio(alloc, &interval.low)?)?;
-    text.extend_from_slice(b" to ")?;
-    text.extend_from_slice(&print_ratio(alloc, &interval.high)?)?;
-    text.push(b'\n')?;
-    Ok(text)
+    joined(
+        alloc,
+        &[
+            Text(b"maidsolve threshold 1\n"),
+            Text(names.name(place.node)),
+            Text(b" row "),
+            Number(row as u128),
+            Text(b": "),
+            Quoted(names.label(place.node, place.state)),
+            Text(b" = "),
+            Fraction(&interval.now),
+            Text(b" from "),
+            Fraction(&interval.low),
+            Text(b" to "),
+            Fraction(&interval.high),
+            Text(b"\n"),
+        ],
+    )
 }
 
 /// How far the probability of the state with that label may move in that row of the chance node of
@@ -150,5 +154,5 @@ pub fn answer(
     keep_row(alloc, &diagram, place, row, node)?;
     let solved = solve_diagram(alloc, &diagram, &names)?;
     let interval = find_interval(alloc, &diagram, &names, &solved, place, row)?;
-    Ok(threshold_text(alloc, &names, place, row, interval)?)
+    Ok(threshold_text(alloc, &names, place, row, &interval)?)
 }

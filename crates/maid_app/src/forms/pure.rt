@@ -12,6 +12,8 @@ use crate::reading::Source;
 use crate::refusal::{Refusal, told};
 use crate::{Status, lines};
 use app_lines::{choice_lines, gain_lines};
+use line_pieces::Piece::Text;
+use line_pieces::joined;
 use maid_model::{Diagram, Names};
 use pure_search::{Pure, PureFault, first_pure};
 use std::alloc::{AllocError, Global};
@@ -51,10 +53,12 @@ fn pure_text(
     requires gains { length found.now.gains ≡ diagram.now.agents }
     ensures { IfOk result (λ text. text.items ≡ pure_text diagram.now names.now found.now) }
 {
-    let mut text = Vec::from_slice(alloc, b"maidsolve pure 1\n")?;
-    text.extend_from_slice(&choice_lines(alloc, diagram, names, &found.answers)?)?;
-    text.extend_from_slice(&gain_lines(alloc, names, &found.gains)?)?;
-    Ok(text)
+    let choices = choice_lines(alloc, diagram, names, &found.answers)?;
+    let gains = gain_lines(alloc, names, &found.gains)?;
+    joined(
+        alloc,
+        &[Text(b"maidsolve pure 1\n"), Text(&choices), Text(&gains)],
+    )
 }
 
 /// The first pure equilibrium of the diagram that a file's bytes stand for, and what it is worth to each agent.

@@ -10,7 +10,8 @@ use crate::reading::Source;
 use crate::refusal::{Refusal, told};
 use crate::{Status, lines};
 use app_lines::{choice_lines, gain_lines};
-use line_pieces::push_number;
+use line_pieces::Piece::{Number, Text};
+use line_pieces::joined;
 use maid_model::{Diagram, Names};
 use policy_update::{UpdateFault, Updated, update};
 use std::alloc::{AllocError, Global};
@@ -56,12 +57,18 @@ fn update_text(
     requires gains { length updated.now.gains ≡ diagram.now.agents }
     ensures { IfOk result (λ text. text.items ≡ update_text diagram.now names.now updated.now) }
 {
-    let mut text = Vec::from_slice(alloc, b"maidsolve update 1\nrounds ")?;
-    push_number(&mut text, updated.rounds as u128)?;
-    text.push(b'\n')?;
-    text.extend_from_slice(&choice_lines(alloc, diagram, names, &updated.answers)?)?;
-    text.extend_from_slice(&gain_lines(alloc, names, &updated.gains)?)?;
-    Ok(text)
+    let choices = choice_lines(alloc, diagram, names, &updated.answers)?;
+    let gains = gain_lines(alloc, names, &updated.gains)?;
+    joined(
+        alloc,
+        &[
+            Text(b"maidsolve update 1\nrounds "),
+            Number(updated.rounds as u128),
+            Text(b"\n"),
+            Text(&choices),
+            Text(&gains),
+        ],
+    )
 }
 
 /// The result of updating the diagram that a file's bytes stand for (Lauritzen and Nilsson 2001), and what it is worth to

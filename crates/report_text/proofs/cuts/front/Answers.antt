@@ -1,7 +1,6 @@
-use Rattle.std.proofs.Common.{◌≡◌, ◌≤◌, length, List, take, drop, ℕ, not, eqb, subst, sym, arith}
+use Rattle.std.proofs.Common.{◌≡◌, not, eqb, arith}
 use Rattle.std.specs.List.{prefix_len}
 use Rattle.std.proofs.lemmas.List.Sums.{prefix_len-le-length}
-use Rattle.report_text.specs.Slots.{IsFront}
 use Rattle.report_text.proofs.OneCut.{cut_front}
 use Rattle.report_text.proofs.cuts.front.Goals as goal
 

@@ -1,4 +1,3 @@
-use Rattle.report_text.proofs.BadLines.{unfinished}
 use Rattle.report_text.proofs.ReadingLaws.{one_value, reads_back, exclusive, one_bad_line}
 use Rattle.report_text.proofs.laws.reports_read_one_way.Goals as goal
 

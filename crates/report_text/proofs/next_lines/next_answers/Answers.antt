@@ -1,8 +1,8 @@
-use Rattle.std.proofs.Common.{◌≡◌, ◌+◌, ◌<◌, ◌∷◌, [], ◌++◌, take, drop, get_or, sym, ◌∙◌, ap, subst, rules}
-use Rattle.std.proofs.lemmas.List.{take_more, take-append-drop}
+use Rattle.std.proofs.Common.{◌+◌, take, drop, get_or, sym, subst}
+use Rattle.std.proofs.lemmas.List.{take_more}
 use Rattle.std.proofs.lemmas.Result.{err_from_is_err_and}
 use Rattle.std.specs.List.{flat_map}
-use Rattle.report_text.specs.Slots.{IsStuck, ReadsAnswers, answer_slots}
+use Rattle.report_text.specs.Slots.{IsStuck, answer_slots}
 use Rattle.report_text.proofs.Turns.{answers_step, answers_stuck, parted}
 use Rattle.report_text.proofs.next_lines.next_answers.Goals as goal
 

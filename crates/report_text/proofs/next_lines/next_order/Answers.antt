@@ -1,6 +1,4 @@
-use Rattle.std.proofs.Common.{◌≡◌, ◌∷◌, [], ◌++◌, List, ℕ, refl, sym, ◌∙◌, ap, subst}
 use Rattle.std.proofs.lemmas.Result.{err_from_is_err_and}
-use Rattle.report_text.specs.Slots.{order_words}
 use Rattle.report_text.proofs.Stops.{orderless_cut, orderless_line}
 use Rattle.report_text.proofs.next_lines.next_order.Goals as goal
 

@@ -1,6 +1,5 @@
-use Rattle.std.proofs.Common.{◌≡◌, ◌∷◌, [], ◌++◌, List, ℕ, refl, sym, ◌∙◌, ap, subst}
+use Rattle.std.proofs.Common.{◌∙◌}
 use Rattle.std.proofs.lemmas.Result.{err_from_is_err_and}
-use Rattle.maid_model.specs.declared.answers.Row.{Row}
 use Rattle.report_text.specs.Slots.{OfRow, row_words}
 use Rattle.report_text.proofs.Stops.{stuck_cut, stuck_line}
 use Rattle.report_text.proofs.Tails.{same_front}

@@ -1,4 +1,3 @@
-use Rattle.std.proofs.Common.{◌≡◌, ◌∷◌, [], List, ℕ, ap, subst}
 use Rattle.report_text.proofs.Fractions.{not_true}
 use Rattle.report_text.proofs.Stops.{stuck_more}
 use Rattle.report_text.proofs.next_lines.pass_end.Goals as goal

@@ -1,5 +1,5 @@
-use Rattle.std.proofs.Common.{◌≡◌, ◌∙◌, ℕ, eqb, true, ap, arith, tests, subst, rules}
-use Rattle.std.specs.Prelude.{FitsSigned, unsigned_abs, IsTrue}
+use Rattle.std.proofs.Common.{◌≡◌, ◌∙◌, ap, subst, rules}
+use Rattle.std.specs.Prelude.{FitsSigned, unsigned_abs}
 use Rattle.std.specs.Int.{IsGcd, w128}
 use Rattle.std.proofs.lemmas.Int.{to_z-of_z}
 use Rattle.report_text.proofs.Fractions.{gcd_reduces, reduced_gcd, is_one, one_is}

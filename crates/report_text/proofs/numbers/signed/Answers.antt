@@ -1,12 +1,11 @@
 -- A number is parsed back from its digits, and nothing is that prints otherwise.
-use Rattle.std.proofs.Common.{◌≡◌, ℕ, Bool, true, false, Ok, sym, ◌∙◌, ap, arith}
-use Rattle.std.specs.Prelude.{ℤ, decimal}
+use Rattle.std.proofs.Common.{◌≡◌, true, sym, ◌∙◌, ap}
 use Rattle.std.specs.Fmt.{signed_decimal}
 use mir.Val.{to_z, of_z}
 use mir.Syntax.{w128}
 use Rattle.std.proofs.lemmas.Int.{to_z-of_z}
 use Rattle.std.proofs.lemmas.Slice.Eq.{bytes_eq-Decides}
-use Rattle.report_text.proofs.Digits.{parses_whole, whole_is_text, parses_signed, signed_is_text}
+use Rattle.report_text.proofs.Digits.{parses_signed, signed_is_text}
 use Rattle.report_text.proofs.numbers.signed.Goals as goal
 
 pub returns-in_default-clause-none : goal.returns-in_default-clause-none

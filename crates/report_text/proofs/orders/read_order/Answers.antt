@@ -1,8 +1,7 @@
-use Rattle.std.proofs.Common.{◌≡◌, ◌<◌, ◌∷◌, [], ◌++◌, List, ℕ, length, subst, sym, arith, rules, false, true}
+use Rattle.std.proofs.Common.{◌≡◌, ◌<◌, ◌∷◌, [], ◌++◌, length, subst, sym, rules}
 use Rattle.std.specs.Prelude.{Contains}
-use Rattle.maid_model.specs.Nodes.{IsDecision}
 use Rattle.report_text.proofs.Fractions.{not_true}
-use Rattle.report_text.proofs.InOrder.{order_start, order_step, order_unnamed, order_again, order_spaceless, order_end, order_short, no_bytes}
+use Rattle.report_text.proofs.InOrder.{order_step, order_unnamed, order_again, order_spaceless, order_short, no_bytes}
 use Rattle.report_text.proofs.orders.read_order.Goals as goal
 use Rattle.report_text.proofs.orders.read_order.Goals.{in_default-decision_of-via-in-Some-decision_of+else-not-contains, in_default-decision_of-via-in_default-decision_of}
 

@@ -1,4 +1,4 @@
-use Rattle.std.proofs.Common.{◌∷◌, [], codes, refl, subst}
+use Rattle.std.proofs.Common.{◌∷◌, [], codes, subst}
 use Rattle.std.proofs.lemmas.Result.{err_from_is_err_and, MatchResult-weaker}
 use Rattle.report_text.specs.Laws.{IsToldApart}
 use Rattle.report_text.specs.Slots.{IsStuck, IsTaken, LinesView, Told}

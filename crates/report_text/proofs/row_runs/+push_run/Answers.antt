@@ -58,7 +58,7 @@ loop-state-preserved t c =
       labels = c.truncate.ensures.items ∙ ap (λ l. take c.len-chosen.result l) (c.in_ok-next.ensures.labels ∙ added) ∙ take_at labels label c.len-chosen.result (omega (arith, c.len-chosen.ensures, c.args.labels.now.ok.0));
       lines = c.in_ok-next.ensures.lines
           ∙ (λ i. c.loop-state.invariant.lines i ++ run_lines nodes names answer (added i) rest (c.loop-state.invariant.next i) 0 below)
-          ∙ append_assoc c.args.out.now.items _ _
+          ∙ append_assoc c.args.out.now.items (run_lines nodes names answer labels us c.args.first 0 (c.loop-state.state * below)) (run_lines nodes names answer (labels ++ label) rest (c.args.first + c.loop-state.state * below) 0 below)
           ∙ ap (λ l. c.args.out.now.items ++ (run_lines nodes names answer labels l c.args.first 0 (c.loop-state.state * below) ++ run_lines nodes names answer (labels ++ label) rest (c.args.first + c.loop-state.state * below) 0 below)) whole
           ∙ ap (λ l. c.args.out.now.items ++ l) (sym (run_step nodes names answer labels u rest c.args.first c.loop-state.state))
           ∙ ap (λ l. c.args.out.now.items ++ run_lines nodes names answer labels l c.args.first 0 ((c.loop-state.state + 1) * below)) (sym whole);

@@ -1,5 +1,5 @@
 -- Each piece of the line is the one that the row is made of, since what stands behind a known front is known.
-use Rattle.std.proofs.Common.{◌≡◌, ◌+◌, ◌<◌, ◌++◌, ◌∷◌, List, ℕ, sym, ◌∙◌, ap, subst, rules, append_assoc}
+use Rattle.std.proofs.Common.{◌≡◌, ◌+◌, ◌<◌, ◌++◌, sym, ◌∙◌, ap, subst, rules, append_assoc}
 use Rattle.std.specs.Prelude.{decimal}
 use Rattle.maid_model.specs.Names.{label_of}
 use Rattle.maid_model.specs.Reports.{quoted, worth_text}

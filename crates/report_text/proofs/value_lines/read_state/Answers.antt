@@ -1,4 +1,4 @@
-use Rattle.std.proofs.Common.{◌≡◌, ◌<◌, ◌^◌, ℕ, ◌+◌, arith, rules}
+use Rattle.std.proofs.Common.{◌<◌, ◌^◌, ◌+◌, arith, rules}
 use Rattle.report_text.proofs.Fractions.{none_of}
 use Rattle.report_text.proofs.Tails.{state_digits, state_number}
 use Rattle.report_text.proofs.value_lines.read_state.Goals as goal
