@@ -144,11 +144,27 @@ impl<'a> Question<'a> {
         }
         Ok(held)
     }
+
+    /// The fractions from 0 to 1 at which all answers hold, by their decisions' gains. It finds the
+    /// relevance graph, makes the plans of the run, reserves the workspaces, and goes over the
+    /// decisions in the order of solving.
+    fn hold_by_gains(&self, alloc: Global) -> Result<Held, AllocError>
+        requires { IsQuestion self.now }
+        ensures range { IfOk result IsRange }
+        ensures held { IfOk result (HoldsAllAnswers self.now) }
+    {
+        greedy_orders();
+        descent_is_tested();
+        let (diagram, solved) = (self.diagram, self.solved);
+        let relevance = find_relevance(alloc, diagram)?;
+        let run = plan_run(alloc, diagram, &solved.order)?;
+        let mut spaces = Workspaces::reserve(alloc, run.size.cells as usize)?;
+        self.narrow_all(alloc, &relevance, &run.decisions, &mut spaces)
+    }
 }
 
-/// The fractions from 0 to 1 at which all answers hold. Where some may not hold at all of them, it
-/// finds the relevance graph, makes the plans of the run, reserves the workspaces, and goes over the
-/// decisions in the order of solving.
+/// The fractions from 0 to 1 at which all answers hold. The gains are summed where some answer may
+/// not hold at all of them.
 pub(crate) fn hold_answers(
     alloc: Global,
     diagram: &Diagram,
@@ -160,8 +176,6 @@ pub(crate) fn hold_answers(
     ensures range { IfOk result IsRange }
     ensures held { IfOk result (IsHeld diagram.now.nodes (answered diagram.now solved.now) place) }
 {
-    greedy_orders();
-    descent_is_tested();
     let question = Question {
         diagram,
         solved,
@@ -173,8 +187,5 @@ pub(crate) fn hold_answers(
     if question.all_stand() {
         return Ok(all_fractions());
     }
-    let relevance = find_relevance(alloc, diagram)?;
-    let run = plan_run(alloc, diagram, &solved.order)?;
-    let mut spaces = Workspaces::reserve(alloc, run.size.cells as usize)?;
-    question.narrow_all(alloc, &relevance, &run.decisions, &mut spaces)
+    question.hold_by_gains(alloc)
 }

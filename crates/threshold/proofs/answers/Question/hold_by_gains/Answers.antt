@@ -1,0 +1,38 @@
+use Rattle.std.proofs.Common.{◌∙◌, ◌≤◌, arith, ap, sym, subst}
+use Rattle.maid_model.specs.declared.limits.TheConstants.{MOST_PLAN_CELLS}
+use Rattle.maid_model.specs.Views.{SolvedView}
+use Rattle.size_precheck.specs.Decisions.{ArePlans}
+use Rattle.size_precheck.specs.Sizes.{IsSizeOfRun, ListsDecisions}
+use Rattle.threshold.proofs.Rooms.{has_room, lists_decisions}
+use Rattle.threshold.proofs.answers.Question.hold_by_gains.Goals as goal
+
+pub plan_run-requires : goal.plan_run-requires
+plan_run-requires c =
+    subst (ListsDecisions c.args.self.now.diagram.now.nodes) (sym (c.deref.ensures.value ∙ ap (λ (s : SolvedView). s.order) c.solved.view_is)) (lists_decisions c.args.self.now.diagram.now.nodes c.args.self.now.solved.now.order c.requires.setting.answer.order)
+
+pub overflow_cast-run : goal.overflow_cast-run
+overflow_cast-run c =
+    let nodes = c.args.self.now.diagram.now.nodes in
+    let sized = subst (λ order. IsSizeOfRun nodes order c.in_ok-run.run'.size) (c.deref.ensures.value ∙ ap (λ (s : SolvedView). s.order) c.solved.view_is) c.in_ok-run.ensures.size in
+    let few : c.in_ok-run.run'.size.cells ≤ MOST_PLAN_CELLS = (c.requires.setting.small c.in_ok-run.run'.size (record { order = c.args.self.now.solved.now.order; is_order = c.requires.setting.answer.order; is_size = sized })).cells in
+    omega (arith, few)
+
+pub reserve-requires : goal.reserve-requires
+reserve-requires c =
+    let nodes = c.args.self.now.diagram.now.nodes in
+    let sized = subst (λ order. IsSizeOfRun nodes order c.in_ok-run.run'.size) (c.deref.ensures.value ∙ ap (λ (s : SolvedView). s.order) c.solved.view_is) c.in_ok-run.ensures.size in
+    (c.requires.setting.small c.in_ok-run.run'.size (record { order = c.args.self.now.solved.now.order; is_order = c.requires.setting.answer.order; is_size = sized })).cells
+
+pub narrow_all-requires-clause-planned : goal.narrow_all-requires-clause-planned
+narrow_all-requires-clause-planned c =
+    let nodes = c.args.self.now.diagram.now.nodes in
+    subst (ArePlans nodes c.args.self.now.solved.now.order) (sym c.deref-2.ensures.value) (subst (λ order. ArePlans nodes order c.in_ok-run.run'.decisions.items) (c.deref.ensures.value ∙ ap (λ (s : SolvedView). s.order) c.solved.view_is) c.in_ok-run.ensures.plans)
+
+pub narrow_all-requires-clause-ready : goal.narrow_all-requires-clause-ready
+narrow_all-requires-clause-ready c =
+    let nodes = c.args.self.now.diagram.now.nodes in
+    let sized = subst (λ order. IsSizeOfRun nodes order c.in_ok-run.run'.size) (c.deref.ensures.value ∙ ap (λ (s : SolvedView). s.order) c.solved.view_is) c.in_ok-run.ensures.size in (
+      c.in_ok-run.run'.size.cells,
+      c.in_ok-spaces.ensures,
+      has_room nodes c.greedy_orders.ensures.one c.args.self.now.solved.now.order c.requires.setting.answer.order c.in_ok-run.run'.size c.descent_is_tested.ensures sized,
+    )
