@@ -1,5 +1,5 @@
 -- Each arc that is asked about can be asked about in the diagram in which only the agent decides.
-use Rattle.std.proofs.Common.{rules, ◌≡◌, ◌≢◌, ◌∙◌, ◌⊎◌, ℕ, ◌<◌, Bool, true, false, not, ◌&&◌, ◌==◌, List, [], ◌∷◌, length, refl, sym, ap, subst, inl, inr}
+use Rattle.std.proofs.Common.{rules, ◌≡◌, ◌≢◌, ◌∙◌, ◌⊎◌, ℕ, ◌<◌, Bool, true, false, not, ◌&&◌, ◌==◌, List, length, refl, sym, ap, subst, inl, inr}
 use Rattle.std.proofs.Math.Decide.{ℕ_discrete}
 use Rattle.arc_laws.proofs.Alone as others
 use Rattle.arc_laws.proofs.Alone.{IsLeft, LeavesTo, decision_there, leaves}
