@@ -4,7 +4,6 @@ ghost use Rattle.std.specs.Prelude.{◌≡◌, ◌<◌, IfOk, length};
 ghost use Rattle.first_fault.specs.Answers.{Passes};
 ghost use Rattle.maid_model.specs.declared.diagrams.Kind.TheVariants.{Chance};
 ghost use Rattle.maid_model.specs.Answers.{IsAnswer};
-ghost use Rattle.maid_model.specs.Diagrams.{IsDiagram};
 ghost use Rattle.maid_model.specs.Nodes.{node_at, states_of};
 ghost use Rattle.reach_laws.specs.Evidence.{IsEvidence, all_seeing_diagram};
 ghost use Rattle.evidence.specs.Conditional.{IsBestGiven, IsPerfectSeeing, IsWorthGiven, IsWorthIn};
@@ -31,33 +30,27 @@ pub struct Conditioned {
     pub gains: Vec<Ratio>,
 }
 
-/// The answer of a diagram in which every decision sees the node, and what it is worth where the
-/// node has the state.
+// The answer of a diagram in which every decision sees the node, and what it is worth to each agent
+// where the node has the state.
 fn condition(
     alloc: Global,
-    seen: Diagram,
+    seen: &Diagram,
     node: usize,
     state: usize,
-) -> Result<Conditioned, GivenFault>
-    requires within { node < length seen.nodes }
-    requires evidence { IsEvidence seen.nodes node }
-    requires state { state < states_of seen.nodes node }
-    ensures rows { Passes given_fault (answer_pass seen node state) result }
-    ensures diagram { IfOk result (λ c. c.diagram ≡ seen) }
-    ensures is_diagram { IfOk result (λ c. IsDiagram seen) }
-    ensures ok { IfOk result (λ c. IsAnswer seen c.solved) }
-    ensures gains { IfOk result (λ c. IsWorthIn seen node state c.solved c.gains.items) }
+) -> Result<(Solved, Vec<Ratio>), GivenFault>
+    requires within { node < length seen.now.nodes }
+    requires evidence { IsEvidence seen.now.nodes node }
+    requires state { state < states_of seen.now.nodes node }
+    ensures rows { Passes given_fault (answer_pass seen.now node state) result }
+    ensures ok { IfOk result (λ made. IsAnswer seen.now made.0) }
+    ensures gains { IfOk result (λ made. IsWorthIn seen.now node state made.0 made.1.items) }
 {
     scoped_sums_fit();
-    let mut answered = answer(alloc, &seen, node)?;
-    let profile = Profile::pure(alloc, &seen, &answered.solved.answers)?;
+    let mut answered = answer(alloc, seen, node)?;
+    let profile = Profile::pure(alloc, seen, &answered.solved.answers)?;
     let (plans, spaces) = (&answered.plans, &mut answered.spaces);
-    let gains = gains_given(alloc, &seen, &profile, node, state, plans, spaces)?;
-    Ok(Conditioned {
-        diagram: seen,
-        solved: answered.solved,
-        gains,
-    })
+    let gains = gains_given(alloc, seen, &profile, node, state, plans, spaces)?;
+    Ok((answered.solved, gains))
 }
 
 /// The diagram under evidence: every decision sees the chance node, as its last parent where it
@@ -106,5 +99,10 @@ pub fn given(
     best_given();
     answers_are_subgame_perfect();
     let seen = see(alloc, diagram, node)?;
-    condition(alloc, seen, node, state)
+    let (solved, gains) = condition(alloc, &seen, node, state)?;
+    Ok(Conditioned {
+        diagram: seen,
+        solved,
+        gains,
+    })
 }

@@ -4,7 +4,6 @@ use Rattle.maid_model.specs.declared.limits.TheConstants.{MOST_RULE_CELLS}
 use Rattle.reach_laws.specs.Evidence.{all_seeing}
 use Rattle.evidence.proofs.Seen.{AddsUp, adds_next, count_same, rules_kept, rules_told}
 use Rattle.evidence.proofs.sights.keeps_rules.Goals as goal
-use Rattle.evidence.proofs.sights.keeps_rules.Goals.{After-loop-v}
 
 pub loop-v-preserved : goal.loop-v-preserved
 loop-v-preserved c = adds_next (all_seeing c.args.diagram.now.nodes c.args.node) c.loop-v.v c.loop-v.cells c.in-Some.more c.loop-v.invariant c.in-Some.ensures

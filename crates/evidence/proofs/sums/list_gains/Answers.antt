@@ -1,4 +1,5 @@
-use Rattle.std.proofs.Common.{◌<◌, ◌+◌, sym, subst}
+use Rattle.std.proofs.Common.{◌<◌, ◌+◌, List, sym, subst}
+use Rattle.maid_model.specs.declared.answers.Ratio.{Ratio}
 use Rattle.evidence.specs.Conditional.{HasGainsGiven}
 use Rattle.evidence.specs.Stakes.{HasWorthsAt}
 use Rattle.evidence.proofs.Conditional.{expected_is, gains_push, stake}
@@ -20,7 +21,7 @@ pub loop-agent-preserved : goal.loop-agent-preserved
 loop-agent-preserved c =
     let d = c.args.diagram.now in
     let p = c.args.profile.now in
-    subst (HasGainsGiven d p c.args.node c.args.state (c.loop-agent.agent + 1)) (sym c.in_ok-push.ensures.items)
+    subst (HasGainsGiven d p c.args.node c.args.state (c.loop-agent.agent + 1)) (sym {A = List Ratio} c.in_ok-push.ensures.items)
     (gains_push d p c.args.node c.args.state c.loop-agent.agent c.loop-agent.gains.items c.expected.result c.loop-agent.invariant
     (expected_is d p c.args.node c.args.state c.agents.ensures.diagram c.requires.setting.within c.requires.setting.profile c.requires.setting.rules c.requires.setting.has_state c.args.mass c.requires.mass c.deref.result.now
     (subst (HasWorthsAt d.nodes p c.args.node c.args.state) (sym c.deref.ensures.value) c.in_ok-worths.ensures)
