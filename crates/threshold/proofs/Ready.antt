@@ -28,7 +28,7 @@ use Rattle.size_precheck.specs.Sizes.{ArePlansOf}
 use Rattle.threshold.specs.declared.weights.Place.{Place}
 use Rattle.threshold.specs.Answers.{HoldsAtFraction, IsAnswerOf, IsThresholdSetting}
 use Rattle.threshold.specs.Ends.{IsEnd}
-use Rattle.threshold.specs.Held.{AreBestIn, HoldsSomewhere}
+use Rattle.threshold.specs.Held.{AreBestIn, AreEndGains}
 use Rattle.threshold.proofs.Comparing.{end_decision, end_graph, end_like, end_profile}
 use Rattle.threshold.proofs.Holding.{answer_decides, answer_fits, holds_same}
 use Rattle.threshold.proofs.Plans.{keeps_plans, room_same}
@@ -54,11 +54,7 @@ small_sums e base t gains g c p bound k rules sums i = go (dec_lt i (length gain
 
 -- what is told of lists of gains, of rows and of a count of states
 pub record Ready (nodes : List NodeView) (s : List RuleView) (place : Place) (t : ℕ) (gains_nought gains_one : List ℤ) (rows : List Row) (states : ℕ) : Type 0 where
-  pub nought : length gains_nought ≡ length rows * states
-  pub one : length gains_one ≡ length rows * states
-  pub small_nought : AreSmallGains gains_nought
-  pub small_one : AreSmallGains gains_one
-  pub somewhere : HoldsSomewhere (AreBestIn gains_nought gains_one states rows (length rows))
+  pub gains : AreEndGains gains_nought gains_one states rows
   pub same : (num den : ℕ) → 0 < den → num ≤ den → AreBestIn gains_nought gains_one states rows (length rows) num den ↔ HoldsAtFraction nodes s place t num den
 
 module _ (d : DiagramView) (solved : SolvedView) (place : Place) (nought one : DiagramView) (set : IsThresholdSetting d solved place nought one) (answer : AnswerView) (of : IsAnswerOf solved answer) where
@@ -115,14 +111,15 @@ module _ (d : DiagramView) (solved : SolvedView) (place : Place) (nought one : D
     ready : Ready d.nodes (answered d solved) place answer.decision gains_nought gains_one answer.rows (states_of d.nodes answer.decision)
     ready =
         let same = holds_same d solved place set.is_diagram set.answer.fits set.cell nought one set.ends answer of base b gains_nought gains_one sums_nought sums_one in
-        let w = set.somewhere in record {
-          nought = counted 0 nought set.ends.at_nought base gains_nought sums_nought;
-          one = counted 1 one set.ends.at_one base gains_one sums_one;
+        let w = set.somewhere in
+        let gains : AreEndGains gains_nought gains_one (states_of d.nodes answer.decision) answer.rows = record {
+          nought_count = counted 0 nought set.ends.at_nought base gains_nought sums_nought;
+          one_count = counted 1 one set.ends.at_one base gains_one sums_one;
           small_nought = small_sums nought base answer.decision gains_nought (end_graph d place set.is_diagram at 0 set.ends.total nought set.ends.at_nought answer.decision k) set.ends.at_nought.moved.tables (profile_nought base b.profile) set.ends.bound_nought decides_nought (rules_nought base small) sums_nought;
           small_one = small_sums one base answer.decision gains_one (end_graph d place set.is_diagram at 1 set.ends.total one set.ends.at_one answer.decision k) set.ends.at_one.moved.tables (profile_one base b.profile) set.ends.bound_one decides_one (rules_one base small) sums_one;
           somewhere = record { num = w.num; den = w.den; positive = w.positive; at_most = w.at_most; holds = (same w.num w.den w.positive w.at_most).1 (w.holds answer.decision k) };
-          same = same;
-        }
+        } in
+        record { gains = gains; same = same }
 
     -- the same in the names that code gives the lists
     pub ready_as : (nought_list one_list : List ℤ) (rows : List Row) (states : ℕ) → nought_list ≡ gains_nought → one_list ≡ gains_one → rows ≡ answer.rows → states ≡ states_of d.nodes answer.decision

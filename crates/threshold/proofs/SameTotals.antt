@@ -27,7 +27,7 @@ use Rattle.threshold.specs.declared.faults.SpanFault.TheVariants as faults
 use Rattle.threshold.specs.declared.weights.Place.{Place}
 use Rattle.threshold.specs.Ends.{AreEnds, AreTotals, IsEnd}
 use Rattle.threshold.specs.Faults as views
-use Rattle.threshold.specs.Faults.{FaultView, OthersWeighNought, scoped_pass, span_fault, span_pass, total_pass, with_cells, with_total}
+use Rattle.threshold.specs.Faults.{FaultView, OthersWeighNought, scoped_pass, span_fault, span_pass, with_total}
 use Rattle.threshold.specs.Weights.{IsCell}
 use Rattle.threshold.proofs.Alike.{HasSameBounds, bounds_kept, passed_at, passed_by_utilities, through}
 use Rattle.threshold.proofs.Tables.{all_weight, is_place}

@@ -110,10 +110,10 @@ module _ (nodes : List NodeView) (place : Place) (c : HasChanceTables nodes) (p 
           minus w n z e l = omega (arith, ints)
 
 -- ---- one cell more
-pub cells_more : (nodes : List NodeView) (place : Place) (scales : Scales) (r s : ℕ) (cells : List ℤ) (cell : ℤ) → s < states_of nodes place.node
+pub cells_more : (nodes : List NodeView) (place : Place) (scales : Scales) (s r : ℕ) (cells : List ℤ) (cell : ℤ) → s < states_of nodes place.node
     → cells ≡ new_cells nodes place scales (r * states_of nodes place.node + s) → cell ≡ pos (new_weight nodes place scales s r)
     → cells ++ cell ∷ [] ≡ new_cells nodes place scales (r * states_of nodes place.node + s + 1)
-cells_more nodes place scales r s cells cell l e f =
+cells_more nodes place scales s r cells cell l e f =
     (λ i. e i ++ f i ∷ [])
     ∙ ap (λ w. new_cells nodes place scales (r * n + s) ++ pos w ∷ []) (λ i. new_weight nodes place scales (sym (mod-mul-add r n s l) i) (sym (div-mul-add r n s l) i))
     ∙ sym (map-append pos (map at (range_with_len 0 (r * n + s))) (at (r * n + s) ∷ []))

@@ -1,8 +1,8 @@
 -- Intervals of fractions on which conditions hold, and how they get narrower. Only private functions cite it.
-use Rattle.std.specs.Prelude.{◌↔◌, ℕ, ◌<◌, ◌≤◌, ◌*◌, ◌^◌, List, length, slice_index_or, ℤ, pos, ◌+ℤ◌, ◌-ℤ◌, ◌*ℤ◌, ◌≤ℤ◌}
+use Rattle.std.specs.Prelude.{◌≡◌, ◌↔◌, ℕ, ◌<◌, ◌≤◌, ◌*◌, ◌^◌, List, length, slice_index_or, ℤ, pos, ◌+ℤ◌, ◌-ℤ◌, ◌*ℤ◌, ◌≤ℤ◌}
 use Rattle.maid_model.specs.declared.answers.Row.{Row}
 use Rattle.maid_model.specs.Answers.{no_row}
-use Rattle.maid_model.specs.Gains.{gain_in}
+use Rattle.maid_model.specs.Gains.{AreSmallGains, gain_in}
 use Rattle.threshold.specs.declared.held.Held.{Held}
 use Rattle.threshold.specs.declared.held.Part.{Part}
 
@@ -84,3 +84,12 @@ AreBestIn nought one states rows n num den =
 -- nor in any row
 abbrev pub AllBestIn : List ℤ → List ℤ → ℕ → List Row → ℕ → ℕ → Type 0
 AllBestIn nought one states rows num den = AreBestIn nought one states rows (length rows) num den
+
+-- gains of rows at the probabilities 0 and 1: one for each row and state, all of them small, and at
+-- some fraction no state gains more in any row than its choice
+pub record AreEndGains (nought one : List ℤ) (states : ℕ) (rows : List Row) : Type 0 where
+  pub nought_count : length nought ≡ length rows * states
+  pub one_count : length one ≡ length rows * states
+  pub small_nought : AreSmallGains nought
+  pub small_one : AreSmallGains one
+  pub somewhere : HoldsSomewhere (AllBestIn nought one states rows)

@@ -2,7 +2,7 @@
 
 ghost use Rattle.std.specs.Prelude.{◌≡◌, ℕ, ◌<◌, ◌≤◌, ◌+◌, ◌*◌, ◌^◌, All, length, nat_abs};
 ghost use Rattle.maid_model.specs.Gains.{AreSmallGains};
-ghost use Rattle.threshold.specs.Held.{AllBestIn, HoldsSomewhere, IsBestIn, IsGreater};
+ghost use Rattle.threshold.specs.Held.{AllBestIn, AreEndGains, HoldsSomewhere, IsBestIn, IsGreater};
 ghost use Rattle.threshold.specs.Held.{IsLesser, IsNotBelow, IsPart, IsRange, IsWithin};
 ghost use Rattle.threshold.specs.Held.{Narrows, lead_at};
 
@@ -139,12 +139,8 @@ pub(crate) fn narrow_rows(
     rows: &[Row],
 ) -> Held
     requires range { IsRange held }
-    requires nought { length nought.now ≡ length rows.now * states }
-    requires one { length one.now ≡ length rows.now * states }
-    requires small_nought { AreSmallGains nought.now }
-    requires small_one { AreSmallGains one.now }
+    requires gains { AreEndGains nought.now one.now states rows.now }
     requires choices { All (λ row. row.choice < states) rows.now }
-    requires somewhere { HoldsSomewhere (AllBestIn nought.now one.now states rows.now) }
     ensures { Narrows (AllBestIn nought.now one.now states rows.now) held result }
 {
     let mut held = held;

@@ -15,7 +15,7 @@ loop-state-preserved c =
     let small = c.new_weight.ensures.small in
     let cell : to_z w128 c.new_weight.result ≡ pos c.new_weight.result = to_z_pos w128 c.new_weight.result (omega arith) in
     c.in_ok-push.ensures.items
-    ∙ cells_more c.args.diagram.now.nodes c.args.place c.args.scales c.loop-row.row c.loop-state.state c.loop-state.cells.items (to_z w128 c.new_weight.result) (subst (λ k. c.loop-state.state < k) c.states-states.ensures.states c.loop-state-test.true) c.loop-state.invariant (cell ∙ ap pos c.new_weight.ensures.weight)
+    ∙ cells_more c.args.diagram.now.nodes c.args.place c.args.scales c.loop-state.state c.loop-row.row c.loop-state.cells.items (to_z w128 c.new_weight.result) (subst (λ k. c.loop-state.state < k) c.states-states.ensures.states c.loop-state-test.true) c.loop-state.invariant (cell ∙ ap pos c.new_weight.ensures.weight)
     ∙ ap (new_cells c.args.diagram.now.nodes c.args.place c.args.scales) (omega arith)
 
 pub loop-row-preserved : goal.loop-row-preserved

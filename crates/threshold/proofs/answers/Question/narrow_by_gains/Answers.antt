@@ -59,55 +59,15 @@ row_gains_by-requires-2-clause-ready c =
           (room_one q.diagram.now q.solved.now q.place q.nought.now q.one.now c.requires.setting.setting c.args.answer.now c.requires.answer c.greedy_orders.ensures.orders ready.0 ready.2),
     )
 
-pub narrow_rows-requires-clause-nought : goal.narrow_rows-requires-clause-nought
-narrow_rows-requires-clause-nought c =
+pub narrow_rows-requires-clause-gains : goal.narrow_rows-requires-clause-gains
+narrow_rows-requires-clause-gains c =
     let q = c.args.self.now in
     let at : c.answer.inside.decision ≡ c.args.answer.now.decision = ap (λ (a : AnswerView). a.decision) c.answer.view_is in
     let base = subst (λ v. IsBase q.diagram.now.nodes (answered q.diagram.now q.solved.now) v c.in_ok-base.base) at (subst (λ l. IsBase q.diagram.now.nodes (pure_profile q.diagram.now.nodes l) c.answer.inside.decision c.in_ok-base.base) (c.deref.ensures.value ∙ ap (λ (s : SolvedView). s.answers) c.solved.view_is) c.in_ok-base.ensures.base) in
     let ready = ready_as q.diagram.now q.solved.now q.place q.nought.now q.one.now c.requires.setting.setting c.args.answer.now c.requires.answer c.in_ok-base.base base c.in_ok-base.ensures.room c.in_ok-nought.nought.items c.in_ok-one.one.items
     (subst (λ v. IsRowGains q.nought.now.nodes c.in_ok-base.base v c.in_ok-nought.nought.items) at c.in_ok-nought.ensures.gains) (subst (λ v. IsRowGains q.one.now.nodes c.in_ok-base.base v c.in_ok-one.one.items) at c.in_ok-one.ensures.gains)
     c.deref-2.result.now c.deref-3.result.now c.deref-4.result.now c.states.result c.deref-2.ensures.value c.deref-3.ensures.value (c.deref-4.ensures.value ∙ ap (λ (a : AnswerView). a.rows) c.answer.view_is) (c.states.ensures.states ∙ ap (states_of q.diagram.now.nodes) at) in
-    ready.nought
-
-pub narrow_rows-requires-clause-one : goal.narrow_rows-requires-clause-one
-narrow_rows-requires-clause-one c =
-    let q = c.args.self.now in
-    let at : c.answer.inside.decision ≡ c.args.answer.now.decision = ap (λ (a : AnswerView). a.decision) c.answer.view_is in
-    let base = subst (λ v. IsBase q.diagram.now.nodes (answered q.diagram.now q.solved.now) v c.in_ok-base.base) at (subst (λ l. IsBase q.diagram.now.nodes (pure_profile q.diagram.now.nodes l) c.answer.inside.decision c.in_ok-base.base) (c.deref.ensures.value ∙ ap (λ (s : SolvedView). s.answers) c.solved.view_is) c.in_ok-base.ensures.base) in
-    let ready = ready_as q.diagram.now q.solved.now q.place q.nought.now q.one.now c.requires.setting.setting c.args.answer.now c.requires.answer c.in_ok-base.base base c.in_ok-base.ensures.room c.in_ok-nought.nought.items c.in_ok-one.one.items
-    (subst (λ v. IsRowGains q.nought.now.nodes c.in_ok-base.base v c.in_ok-nought.nought.items) at c.in_ok-nought.ensures.gains) (subst (λ v. IsRowGains q.one.now.nodes c.in_ok-base.base v c.in_ok-one.one.items) at c.in_ok-one.ensures.gains)
-    c.deref-2.result.now c.deref-3.result.now c.deref-4.result.now c.states.result c.deref-2.ensures.value c.deref-3.ensures.value (c.deref-4.ensures.value ∙ ap (λ (a : AnswerView). a.rows) c.answer.view_is) (c.states.ensures.states ∙ ap (states_of q.diagram.now.nodes) at) in
-    ready.one
-
-pub narrow_rows-requires-clause-small_nought : goal.narrow_rows-requires-clause-small_nought
-narrow_rows-requires-clause-small_nought c =
-    let q = c.args.self.now in
-    let at : c.answer.inside.decision ≡ c.args.answer.now.decision = ap (λ (a : AnswerView). a.decision) c.answer.view_is in
-    let base = subst (λ v. IsBase q.diagram.now.nodes (answered q.diagram.now q.solved.now) v c.in_ok-base.base) at (subst (λ l. IsBase q.diagram.now.nodes (pure_profile q.diagram.now.nodes l) c.answer.inside.decision c.in_ok-base.base) (c.deref.ensures.value ∙ ap (λ (s : SolvedView). s.answers) c.solved.view_is) c.in_ok-base.ensures.base) in
-    let ready = ready_as q.diagram.now q.solved.now q.place q.nought.now q.one.now c.requires.setting.setting c.args.answer.now c.requires.answer c.in_ok-base.base base c.in_ok-base.ensures.room c.in_ok-nought.nought.items c.in_ok-one.one.items
-    (subst (λ v. IsRowGains q.nought.now.nodes c.in_ok-base.base v c.in_ok-nought.nought.items) at c.in_ok-nought.ensures.gains) (subst (λ v. IsRowGains q.one.now.nodes c.in_ok-base.base v c.in_ok-one.one.items) at c.in_ok-one.ensures.gains)
-    c.deref-2.result.now c.deref-3.result.now c.deref-4.result.now c.states.result c.deref-2.ensures.value c.deref-3.ensures.value (c.deref-4.ensures.value ∙ ap (λ (a : AnswerView). a.rows) c.answer.view_is) (c.states.ensures.states ∙ ap (states_of q.diagram.now.nodes) at) in
-    ready.small_nought
-
-pub narrow_rows-requires-clause-small_one : goal.narrow_rows-requires-clause-small_one
-narrow_rows-requires-clause-small_one c =
-    let q = c.args.self.now in
-    let at : c.answer.inside.decision ≡ c.args.answer.now.decision = ap (λ (a : AnswerView). a.decision) c.answer.view_is in
-    let base = subst (λ v. IsBase q.diagram.now.nodes (answered q.diagram.now q.solved.now) v c.in_ok-base.base) at (subst (λ l. IsBase q.diagram.now.nodes (pure_profile q.diagram.now.nodes l) c.answer.inside.decision c.in_ok-base.base) (c.deref.ensures.value ∙ ap (λ (s : SolvedView). s.answers) c.solved.view_is) c.in_ok-base.ensures.base) in
-    let ready = ready_as q.diagram.now q.solved.now q.place q.nought.now q.one.now c.requires.setting.setting c.args.answer.now c.requires.answer c.in_ok-base.base base c.in_ok-base.ensures.room c.in_ok-nought.nought.items c.in_ok-one.one.items
-    (subst (λ v. IsRowGains q.nought.now.nodes c.in_ok-base.base v c.in_ok-nought.nought.items) at c.in_ok-nought.ensures.gains) (subst (λ v. IsRowGains q.one.now.nodes c.in_ok-base.base v c.in_ok-one.one.items) at c.in_ok-one.ensures.gains)
-    c.deref-2.result.now c.deref-3.result.now c.deref-4.result.now c.states.result c.deref-2.ensures.value c.deref-3.ensures.value (c.deref-4.ensures.value ∙ ap (λ (a : AnswerView). a.rows) c.answer.view_is) (c.states.ensures.states ∙ ap (states_of q.diagram.now.nodes) at) in
-    ready.small_one
-
-pub narrow_rows-requires-clause-somewhere : goal.narrow_rows-requires-clause-somewhere
-narrow_rows-requires-clause-somewhere c =
-    let q = c.args.self.now in
-    let at : c.answer.inside.decision ≡ c.args.answer.now.decision = ap (λ (a : AnswerView). a.decision) c.answer.view_is in
-    let base = subst (λ v. IsBase q.diagram.now.nodes (answered q.diagram.now q.solved.now) v c.in_ok-base.base) at (subst (λ l. IsBase q.diagram.now.nodes (pure_profile q.diagram.now.nodes l) c.answer.inside.decision c.in_ok-base.base) (c.deref.ensures.value ∙ ap (λ (s : SolvedView). s.answers) c.solved.view_is) c.in_ok-base.ensures.base) in
-    let ready = ready_as q.diagram.now q.solved.now q.place q.nought.now q.one.now c.requires.setting.setting c.args.answer.now c.requires.answer c.in_ok-base.base base c.in_ok-base.ensures.room c.in_ok-nought.nought.items c.in_ok-one.one.items
-    (subst (λ v. IsRowGains q.nought.now.nodes c.in_ok-base.base v c.in_ok-nought.nought.items) at c.in_ok-nought.ensures.gains) (subst (λ v. IsRowGains q.one.now.nodes c.in_ok-base.base v c.in_ok-one.one.items) at c.in_ok-one.ensures.gains)
-    c.deref-2.result.now c.deref-3.result.now c.deref-4.result.now c.states.result c.deref-2.ensures.value c.deref-3.ensures.value (c.deref-4.ensures.value ∙ ap (λ (a : AnswerView). a.rows) c.answer.view_is) (c.states.ensures.states ∙ ap (states_of q.diagram.now.nodes) at) in
-    ready.somewhere
+    ready.gains
 
 pub returns-clause-held : goal.returns-clause-held
 returns-clause-held c =
