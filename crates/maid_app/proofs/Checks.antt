@@ -2,7 +2,6 @@
 use Rattle.std.proofs.Common.{◌≡◌, ◌<◌, ◌≤◌, ◌⊎◌, inl, inr, ℕ, List, Ok, Err, refl, arith}
 use Rattle.std.proofs.lemmas.Bool.{cases_lt}
 use Rattle.std.proofs.Math.Nat.{min-le_left, min-eq_left, min-eq_right, le_of_lt}
-use Rattle.first_fault.specs.Outcomes.{refusals as refusals_of}
 use Rattle.maid_model.specs.Bounds.{stopped}
 use Rattle.maid_model.specs.declared.limits.TheConstants.{COUNT_END, MOST_LEAVES}
 use Rattle.maid_model.specs.Names.{NamesView}
@@ -12,14 +11,11 @@ use Rattle.maid_app.specs.Answers.{FindsNothing}
 use Rattle.maid_app.specs.Check.{HasVerdict, examining}
 use Rattle.maid_app.specs.Diagrams.{NamedDiagram, IsDiagramOf}
 use Rattle.maid_app.specs.Outcome.{Written, refused}
-use Rattle.maid_app.specs.Reading.{Examines, Judges, IsExamined, TellsOf}
-use Rattle.maid_app.specs.Refusal.{refused_as}
+use Rattle.maid_app.specs.Reading.{Judges, IsExamined, comes_for}
 use Rattle.maid_app.specs.Request.{check}
 use Rattle.maid_app.specs.Stages.{TellsBound, TellsLeaves, TellsBadLine}
 use Rattle.maid_app.specs.Tasks.{comes_of}
-use Rattle.maid_app.specs.declared.refusal.Refusal.{Refusal}
 use Rattle.maid_app.specs.declared.status.Status.TheVariants.{TextFault, WeightBound, TooLarge}
-use Rattle.maid_app.proofs.Refusals.{found_too}
 
 -- a stopped count that passes the limit is of more leaves than that
 pub many_leaves : (count told : ℕ) → told ≡ stopped count → MOST_LEAVES < told → MOST_LEAVES < count
@@ -32,13 +28,9 @@ few_leaves count told e few = by (cases_lt COUNT_END count) where
   by (inr h) = let same = min-eq_left h in omega (arith, e, few, same)
   by (inl h) = let same = min-eq_right {n = COUNT_END} {m = count} (le_of_lt h) in absurd (omega (arith, e, few, same))
 
--- what any file of the diagram comes to, this one does
-pub examines_here : (d : DiagramView) (names : NamesView) (name bytes : List ℕ) (refusal : Refusal) → IsDiagramOf bytes d names → TellsOf (Examines d names) refusal → TellsOf (comes_of examining name bytes) refusal
-examines_here d names name bytes refusal is h = found_too (refusals_of (Examines d names)) (refusals_of (comes_of examining name bytes)) (λ f found. found name bytes is) (refused_as refusal) h
-
 module _ (d : DiagramView) (names : NamesView) (told : List ℕ) where
   -- the diagram passes the weight bound
-  pub bound_examined : TellsBound d names told → Examines d names (Err (refused WeightBound told))
+  pub bound_examined : TellsBound d names told → comes_for examining d names (Err (refused WeightBound told))
   unfolding comes_of
   bound_examined tells = λ name bytes is. let x : NamedDiagram = record { d = d; names = names } in inl (inr ((x, is), inl (x, is, (refl, tells))))
 

@@ -18,6 +18,7 @@ pub mod Solving
 pub mod Steps
 pub mod TellApart
 pub mod Tells
+pub mod TextForms
 pub mod Texts
 pub mod Titles
 pub mod Trimmed

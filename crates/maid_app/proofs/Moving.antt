@@ -2,27 +2,27 @@
 use Rattle.std.proofs.Common.{◌≡◌, ◌<◌, ◌-◌, ◌/◌, ◌*ℤ◌, ℕ, ℤ, pos, map, List, [], ◌∷◌, ◌++◌, length, inl, inr, refl, Option, None, Some, IfSome, Ok, sym, subst}
 use Rattle.std.proofs.lemmas.List.{length-set}
 use Rattle.first_fault.specs.Answers.{IsFoundIfAny}
-use Rattle.first_fault.specs.Passes.{each, over}
+use Rattle.first_fault.specs.Passes.{over}
 use Rattle.maid_model.specs.Names.{NamesView, NamesFit}
 use Rattle.maid_model.specs.Nodes.{node_at}
 use Rattle.maid_model.specs.Tables.{chance_total}
 use Rattle.maid_model.specs.Views.{DiagramView, NodeView}
 use Rattle.threshold.specs.Faults.{IsCommonMultiple, WeightBound, node_with, span_pass, total_pass, with_cells, with_total}
 use Rattle.maid_app.specs.Chances.{IsStatePlace}
-use Rattle.maid_app.specs.Diagrams.{NamedDiagram, IsDiagramOf}
+use Rattle.maid_app.specs.Diagrams.{NamedDiagram}
 use Rattle.maid_app.specs.Lines.{bound_line}
 use Rattle.maid_app.specs.Outcome.{Refused, refused, done_with}
-use Rattle.maid_app.specs.Reading.{TellsOf, found_by}
+use Rattle.maid_app.specs.Reading.{TellsFor, TellsFound, comes_for, found_by}
 use Rattle.maid_app.specs.Refusal.{refused_as}
 use Rattle.maid_app.specs.Solve.{IsSolvable, solver_stages}
-use Rattle.maid_app.specs.Stages.{Stage, Finds, moved_bound, name_stages, no_others, text_fault, unknown_row}
-use Rattle.maid_app.specs.Tasks.{comes_of}
-use Rattle.maid_app.specs.Threshold.{HasThreshold, moved_pass, moving, place_stages, row_pass}
+use Rattle.maid_app.specs.Stages.{Stage, moved_bound, name_stages, no_others, unknown_row}
+use Rattle.maid_app.specs.Threshold.{HasThreshold, moved_pass, moving, row_pass}
 use Rattle.maid_app.specs.declared.forms.chances.StatePlace.{StatePlace}
 use Rattle.maid_app.specs.declared.refusal.Refusal.{Refusal}
 use Rattle.maid_app.specs.declared.status.Status.TheVariants as statuses
-use Rattle.maid_app.proofs.Refusals.{behind, found_too, stages_give, stages_refuse}
+use Rattle.maid_app.proofs.Refusals.{before, behind, found_too, stages_give, stages_refuse}
 use Rattle.maid_app.proofs.SolveRefusals.{place_within}
+use Rattle.maid_app.proofs.Solving.{none_found}
 
 -- ---- the weight bound
 -- where other states have weight it is the bound that is passed
@@ -54,16 +54,6 @@ pub bound_told : (d : DiagramView) (names : NamesView) (place : StatePlace) (row
 bound_told d names place row at told h says = (refl, record { at = at; passes = bound_passed d place.node place.state (row - 1) at h; says = says })
 
 -- ---- the stages one behind another
-found_before : (name bytes : List ℕ) (front back : List Stage) (f : Refused) → each (λ s. Finds s (name, bytes)) front (Some f) → each (λ s. Finds s (name, bytes)) (front ++ back) (Some f)
-found_before name bytes [] back f h = absurd h
-found_before name bytes (s ∷ front) back f (inl h) = inl h
-found_before name bytes (s ∷ front) back f (inr (c, h)) = inr (c, found_before name bytes front back f h)
-
--- what stages find, they find before others too
-with_more : (d : DiagramView) (names : NamesView) (front back : List Stage) (refusal : Refusal) → IsFoundIfAny (found_by d names front) (refused_as refusal) → IsFoundIfAny (found_by d names (front ++ back)) (refused_as refusal)
-with_more d names front back refusal h =
-    found_too (found_by d names front) (found_by d names (front ++ back)) (λ f found name bytes is. found_before name bytes front back f (found name bytes is)) (refused_as refusal) h
-
 -- the stages of the row, and those behind them
 abbrev pub row_stages : List ℕ → ℕ → List ℕ → List Stage
 row_stages node row state = unknown_row node row state ∷ no_others node row state ∷ []
@@ -71,69 +61,68 @@ row_stages node row state = unknown_row node row state ∷ no_others node row st
 abbrev pub late_stages : List ℕ → ℕ → List ℕ → List Stage
 late_stages node row state = solver_stages ++ moved_bound node row state ∷ []
 
--- a name or a label that is not there
-pub names_refuse : (d : DiagramView) (names : NamesView) (node : List ℕ) (row : ℕ) (state name bytes : List ℕ) → IsDiagramOf bytes d names → (refusal : Refusal)
-    → IsFoundIfAny (found_by d names (name_stages node state)) (refused_as refusal) → TellsOf (comes_of (moving node row state) name bytes) refusal
-names_refuse d names node row state name bytes is refusal h =
-    let x : NamedDiagram = record { d = d; names = names } in
-    stages_refuse (moving node row state) name bytes refusal
-    (behind (text_fault ∷ []) (name_stages node state ++ row_stages node row state ++ late_stages node row state) name bytes d names refusal is ((x, is), tt)
-    (with_more d names (name_stages node state) (row_stages node row state ++ late_stages node row state) refusal h))
+module _ (d : DiagramView) (names : NamesView) (node : List ℕ) (row : ℕ) (state : List ℕ) where
+  -- all but the text's fault
+  abbrev stages : List Stage
+  stages = name_stages node state ++ row_stages node row state ++ late_stages node row state
 
-module _ (d : DiagramView) (names : NamesView) (node : List ℕ) (row : ℕ) (state : List ℕ) (place : StatePlace) (is_place : IsStatePlace d names node state place) where
-  row_found : (f : Refused) → row_pass d place row node (Some f) → found_by d names (row_stages node row state) (Some f)
-  row_found f (inl h) name bytes is = let x : NamedDiagram = record { d = d; names = names } in inl (x, is, (place, is_place, h))
-  row_found f (inr (c, h)) name bytes is =
-      let x : NamedDiagram = record { d = d; names = names } in
-      inr ((x, is, (place, is_place, c)), inl (x, is, (place, is_place, h)))
+  refuses : (refusal : Refusal) → TellsFound d names stages refusal → TellsFor (moving node row state) d names refusal
+  refuses refusal = stages_refuse d names (moving node row state) stages refusal refl
 
-  moved_found : (f : Refused) → moved_pass d names place row (Some f) → found_by d names (moved_bound node row state ∷ []) (Some f)
-  moved_found f h name bytes is = let x : NamedDiagram = record { d = d; names = names } in inl (x, is, (place, is_place, h))
+  -- a name or a label that is not there
+  pub names_refuse : (refusal : Refusal) → TellsFound d names (name_stages node state) refusal → TellsFor (moving node row state) d names refusal
+  names_refuse refusal h = refuses refusal (before d names (name_stages node state) (row_stages node row state ++ late_stages node row state) refusal h)
 
-  module _ (name bytes : List ℕ) (is : IsDiagramOf bytes d names) where
-    abbrev AreClear : List Stage → Type 0
-    AreClear stages = each (λ s. Finds s (name, bytes)) stages None
-
-    names_clear : AreClear (text_fault ∷ name_stages node state)
-    names_clear = let x : NamedDiagram = record { d = d; names = names } in ((x, is), ((x, is, (place.node, is_place.node)), ((x, is, (place, is_place)), tt)))
-
-    place_clear : row_pass d place row node None → AreClear (place_stages node row state)
-    place_clear c =
+  module _ (place : StatePlace) (is_place : IsStatePlace d names node state place) where
+    row_found : (f : Refused) → row_pass d place row node (Some f) → found_by d names (row_stages node row state) (Some f)
+    row_found f (inl h) name bytes is = let x : NamedDiagram = record { d = d; names = names } in inl (x, is, (place, is_place, h))
+    row_found f (inr (c, h)) name bytes is =
         let x : NamedDiagram = record { d = d; names = names } in
-        ((x, is), ((x, is, (place.node, is_place.node)), ((x, is, (place, is_place)), ((x, is, (place, is_place, c.0)), ((x, is, (place, is_place, c.1)), tt)))))
+        inr ((x, is, (place, is_place, c)), inl (x, is, (place, is_place, h)))
 
-    solver_clear : row_pass d place row node None → IsSolvable d → AreClear (place_stages node row state ++ solver_stages)
-    solver_clear c can =
+    moved_found : (f : Refused) → moved_pass d names place row (Some f) → found_by d names (moved_bound node row state ∷ []) (Some f)
+    moved_found f h name bytes is = let x : NamedDiagram = record { d = d; names = names } in inl (x, is, (place, is_place, h))
+
+    names_clear : found_by d names (name_stages node state) None
+    names_clear name bytes is = let x : NamedDiagram = record { d = d; names = names } in ((x, is, (place.node, is_place.node)), ((x, is, (place, is_place)), tt))
+
+    place_clear : row_pass d place row node None → found_by d names (name_stages node state ++ row_stages node row state) None
+    place_clear c name bytes is =
         let x : NamedDiagram = record { d = d; names = names } in
-        let p = place_clear c in
-        (p.0, (p.1.0, (p.1.1.0, (p.1.1.1.0, (p.1.1.1.1.0, ((x, is, can.order), ((x, is, can.bound), ((x, is, can.small), tt))))))))
+        ((x, is, (place.node, is_place.node)), ((x, is, (place, is_place)), ((x, is, (place, is_place, c.0)), ((x, is, (place, is_place, c.1)), tt))))
+
+    solver_clear : row_pass d place row node None → IsSolvable d → found_by d names (name_stages node state ++ row_stages node row state ++ solver_stages) None
+    solver_clear c can name bytes is =
+        let p = place_clear c name bytes is in
+        (p.0, (p.1.0, (p.1.1.0, (p.1.1.1.0, none_found d names can name bytes is))))
 
     -- the row
-    pub row_refuses : (refusal : Refusal) → IsFoundIfAny (row_pass d place row node) (refused_as refusal) → TellsOf (comes_of (moving node row state) name bytes) refusal
+    pub row_refuses : (refusal : Refusal) → IsFoundIfAny (row_pass d place row node) (refused_as refusal) → TellsFor (moving node row state) d names refusal
     row_refuses refusal h =
-        stages_refuse (moving node row state) name bytes refusal
-        (behind (text_fault ∷ name_stages node state) (row_stages node row state ++ late_stages node row state) name bytes d names refusal is names_clear
-        (with_more d names (row_stages node row state) (late_stages node row state) refusal (found_too (row_pass d place row node) (found_by d names (row_stages node row state)) row_found (refused_as refusal) h)))
+        refuses refusal
+        (behind d names (name_stages node state) (row_stages node row state ++ late_stages node row state) refusal names_clear
+        (before d names (row_stages node row state) (late_stages node row state) refusal (found_too (row_pass d place row node) (found_by d names (row_stages node row state)) row_found (refused_as refusal) h)))
 
     -- the solver
-    pub solver_refuses : (refusal : Refusal) → row_pass d place row node None → IsFoundIfAny (found_by d names solver_stages) (refused_as refusal) → TellsOf (comes_of (moving node row state) name bytes) refusal
+    pub solver_refuses : (refusal : Refusal) → row_pass d place row node None → TellsFound d names solver_stages refusal → TellsFor (moving node row state) d names refusal
     solver_refuses refusal c h =
-        stages_refuse (moving node row state) name bytes refusal
-        (behind (place_stages node row state) (late_stages node row state) name bytes d names refusal is (place_clear c)
-        (with_more d names solver_stages (moved_bound node row state ∷ []) refusal h))
+        refuses refusal
+        (behind d names (name_stages node state ++ row_stages node row state) (late_stages node row state) refusal (place_clear c)
+        (before d names solver_stages (moved_bound node row state ∷ []) refusal h))
 
     -- the changed diagrams
-    pub moved_refuses : (refusal : Refusal) → row_pass d place row node None → IsSolvable d → IsFoundIfAny (moved_pass d names place row) (refused_as refusal) → TellsOf (comes_of (moving node row state) name bytes) refusal
+    pub moved_refuses : (refusal : Refusal) → row_pass d place row node None → IsSolvable d → IsFoundIfAny (moved_pass d names place row) (refused_as refusal) → TellsFor (moving node row state) d names refusal
     moved_refuses refusal c can h =
-        stages_refuse (moving node row state) name bytes refusal
-        (behind (place_stages node row state ++ solver_stages) (moved_bound node row state ∷ []) name bytes d names refusal is (solver_clear c can)
+        refuses refusal
+        (behind d names (name_stages node state ++ row_stages node row state ++ solver_stages) (moved_bound node row state ∷ []) refusal (solver_clear c can)
         (found_too (moved_pass d names place row) (found_by d names (moved_bound node row state ∷ [])) moved_found (refused_as refusal) h))
 
     -- or nothing does, and the interval is told
-    pub moved_given : (printed : List ℕ) → row_pass d place row node None → IsSolvable d → moved_pass d names place row None → HasThreshold node row state d names printed → comes_of (moving node row state) name bytes (Ok (done_with printed))
-    moved_given printed c can keeps text =
+    pub moved_given : (printed : List ℕ) → row_pass d place row node None → IsSolvable d → moved_pass d names place row None → HasThreshold node row state d names printed
+        → comes_for (moving node row state) d names (Ok (done_with printed))
+    moved_given printed c can keeps =
+        stages_give d names stages (HasThreshold node row state) printed
+        (λ name bytes is.
         let x : NamedDiagram = record { d = d; names = names } in
-        let p = place_clear c in
-        stages_give (place_stages node row state ++ late_stages node row state) (HasThreshold node row state) name bytes d names printed is
-        (p.0, (p.1.0, (p.1.1.0, (p.1.1.1.0, (p.1.1.1.1.0, ((x, is, can.order), ((x, is, can.bound), ((x, is, can.small), ((x, is, (place, is_place, keeps)), tt)))))))))
-        text
+        let p = solver_clear c can name bytes is in
+        (p.0, (p.1.0, (p.1.1.0, (p.1.1.1.0, (p.1.1.1.1.0, (p.1.1.1.1.1.0, (p.1.1.1.1.1.1.0, ((x, is, (place, is_place, keeps)), tt)))))))))

@@ -3,9 +3,9 @@ use Rattle.std.proofs.Common.{◌≡◌, ℕ, List, [], ◌∷◌, ◌++◌, inl
 use Rattle.first_fault.specs.Answers.{IsFoundIfAny}
 use Rattle.first_fault.specs.Outcomes.{refusals as refusals_of}
 use Rattle.first_fault.specs.Passes.{Pass, always, each}
-use Rattle.maid_app.specs.Diagrams.{NamedDiagram, IsDiagramOf}
+use Rattle.maid_app.specs.Diagrams.{IsDiagramOf, NamedDiagram}
 use Rattle.maid_app.specs.Outcome.{Refused, refused, done_with}
-use Rattle.maid_app.specs.Reading.{TellsLine, TellsTextFault, TellsStages, TellsOf, found_by}
+use Rattle.maid_app.specs.Reading.{TellsLine, TellsTextFault, TellsFor, TellsFound, TellsOf, comes_for, found_by}
 use Rattle.maid_app.specs.Refusal.{refused_as}
 use Rattle.maid_app.specs.Stages.{Stage, Finds, text_fault}
 use Rattle.maid_app.specs.Tasks.{Task, text_task, comes_of}
@@ -24,11 +24,11 @@ found_too P Q f (Some x) h = f x h
 pub tells_found : (P : Pass Refused) (status : Status) (line : List ℕ) (refusal : Refusal) → P (Some (refused status line)) → TellsLine status line refusal → IsFoundIfAny P (refused_as refusal)
 tells_found P status line refusal is tells = found_too (always (refused status line)) P (λ f h. subst (λ r. P (Some r)) (sym h.1) is) (refused_as refusal) tells
 
--- what is found with each line that may be made is told
-pub told_gives : {E : Type 0} (P : Pass Refused) (status : Status) (line : Result (Vec ℕ Global) E) (refusal : Refusal) → IfOk line (λ t. P (Some (refused status t.items)))
-    → MatchResult line (λ t. TellsLine status t.items refusal) (λ _. refusal ≡ refusals.NoMemory) → IsFoundIfAny P (refused_as refusal)
-told_gives P status (Ok t) refusal is h = tells_found P status t.items refusal is h
-told_gives P status (Err e) refusal is h = subst (λ r. IsFoundIfAny P (refused_as r)) (sym h) tt
+-- what is found with a line is told, if there is memory for the line
+pub told_gives : {E : Type 0} (P : Pass Refused) (status : Status) (wanted : List ℕ) (line : Result (Vec ℕ Global) E) (refusal : Refusal) → ((told : List ℕ) → told ≡ wanted → P (Some (refused status told)))
+    → IfOk line (λ t. t.items ≡ wanted) → MatchResult line (λ t. TellsLine status t.items refusal) (λ _. refusal ≡ refusals.NoMemory) → IsFoundIfAny P (refused_as refusal)
+told_gives P status wanted (Ok t) refusal found is h = tells_found P status t.items refusal (found t.items is) h
+told_gives P status wanted (Err e) refusal found is h = subst (λ r. IsFoundIfAny P (refused_as r)) (sym h) tt
 
 pub if_ok_then : {A E : Type 0} (r : Result A E) (P Q : A → Type 0) → ((x : A) → P x → Q x) → IfOk r P → IfOk r Q
 if_ok_then (Ok x) P Q f h = f x h
@@ -43,17 +43,12 @@ pub if_err_both : {A E : Type 0} (r : Result A E) (P Q R : E → Type 0) → ((e
 if_err_both (Ok x) P Q R f h k = tt
 if_err_both (Err e) P Q R f h k = f e h k
 
--- what its stages find, a task refuses with
-pub stages_refuse : (task : Task) (name bytes : List ℕ) (refusal : Refusal)
-    → IsFoundIfAny (each (λ s. Finds s (name, bytes)) task.stages) (refused_as refusal) → TellsOf (comes_of task name bytes) refusal
+-- a task that looks for the text's fault first refuses with it
+pub text_refused : (task : Task) (stages : List Stage) (name bytes : List ℕ) (refusal : Refusal) → task.stages ≡ text_fault ∷ stages
+    → TellsTextFault name bytes refusal → TellsOf (comes_of task name bytes) refusal
 unfolding comes_of
-stages_refuse task name bytes refusal h =
-    found_too (each (λ s. Finds s (name, bytes)) task.stages) (refusals_of (comes_of task name bytes)) (λ f found. inl found) (refused_as refusal) h
-
--- a text's fault is the first thing that stages find which look for it first
-pub text_first : (stages : List Stage) (name bytes : List ℕ) (refusal : Refusal) → TellsTextFault name bytes refusal → TellsStages (text_fault ∷ stages) name bytes refusal
-text_first stages name bytes refusal h =
-    found_too (Finds text_fault (name, bytes)) (each (λ s. Finds s (name, bytes)) (text_fault ∷ stages)) (λ f found. inl found) (refused_as refusal) h
+text_refused task stages name bytes refusal e h =
+    found_too (Finds text_fault (name, bytes)) (refusals_of (comes_of task name bytes)) (λ f found. inl (subst (λ list. each (λ s. Finds s (name, bytes)) list (Some f)) (sym e) (inl found))) (refused_as refusal) h
 
 -- what a later stage finds counts where those before it find nothing
 found_behind : (name bytes : List ℕ) (front back : List Stage) (f : Refused) → each (λ s. Finds s (name, bytes)) front None → each (λ s. Finds s (name, bytes)) back (Some f)
@@ -67,30 +62,32 @@ found_before name bytes [] back f found = absurd found
 found_before name bytes (s ∷ front) back f (inl found) = inl found
 found_before name bytes (s ∷ front) back f (inr found) = inr (found.0, found_before name bytes front back f found.1)
 
-pub before : (front back : List Stage) (name bytes : List ℕ) (refusal : Refusal) → TellsStages front name bytes refusal → TellsStages (front ++ back) name bytes refusal
-before front back name bytes refusal h =
-    found_too (each (λ s. Finds s (name, bytes)) front) (each (λ s. Finds s (name, bytes)) (front ++ back)) (λ f found. found_before name bytes front back f found) (refused_as refusal) h
+module _ (d : DiagramView) (names : NamesView) where
+  pub before : (front back : List Stage) (refusal : Refusal) → TellsFound d names front refusal → TellsFound d names (front ++ back) refusal
+  before front back refusal h =
+      found_too (found_by d names front) (found_by d names (front ++ back)) (λ f found name bytes is. found_before name bytes front back f (found name bytes is)) (refused_as refusal) h
 
--- so what stages find in a diagram, they find behind others that find nothing in its bytes
-pub behind : (front back : List Stage) (name bytes : List ℕ) (d : DiagramView) (names : NamesView) (refusal : Refusal) → IsDiagramOf bytes d names → each (λ s. Finds s (name, bytes)) front None
-    → IsFoundIfAny (found_by d names back) (refused_as refusal) → TellsStages (front ++ back) name bytes refusal
-behind front back name bytes d names refusal is clear h =
-    found_too (found_by d names back) (each (λ s. Finds s (name, bytes)) (front ++ back)) (λ f found. found_behind name bytes front back f clear (found name bytes is)) (refused_as refusal) h
+  pub behind : (front back : List Stage) (refusal : Refusal) → found_by d names front None → TellsFound d names back refusal → TellsFound d names (front ++ back) refusal
+  behind front back refusal clear h =
+      found_too (found_by d names back) (found_by d names (front ++ back)) (λ f found name bytes is. found_behind name bytes front back f (clear name bytes is) (found name bytes is)) (refused_as refusal) h
 
--- a task that looks for the text's fault first refuses with it
-pub text_refused : (task : Task) (stages : List Stage) (name bytes : List ℕ) (refusal : Refusal) → task.stages ≡ text_fault ∷ stages
-    → TellsTextFault name bytes refusal → TellsOf (comes_of task name bytes) refusal
-unfolding comes_of
-text_refused task stages name bytes refusal e h =
-    found_too (Finds text_fault (name, bytes)) (refusals_of (comes_of task name bytes)) (λ f found. inl (subst (λ list. each (λ s. Finds s (name, bytes)) list (Some f)) (sym e) (inl found))) (refused_as refusal) h
+  -- what the stages behind the text's fault find in a diagram, a task refuses it with
+  pub stages_refuse : (task : Task) (stages : List Stage) (refusal : Refusal) → task.stages ≡ text_fault ∷ stages → TellsFound d names stages refusal → TellsFor task d names refusal
+  unfolding comes_of
+  stages_refuse task stages refusal e h =
+      let x : NamedDiagram = record { d = d; names = names } in
+      found_too (found_by d names stages) (refusals_of (comes_for task d names)) (λ f found name bytes is. inl (subst (λ list. each (λ s. Finds s (name, bytes)) list (Some f)) (sym e) (inr ((x, is), found name bytes is)))) (refused_as refusal) h
 
--- a task whose stages find nothing gives its text
-pub stages_give : (stages : List Stage) (IsTextOf : DiagramView → NamesView → List ℕ → Type 0) (name bytes : List ℕ) (d : DiagramView) (names : NamesView) (printed : List ℕ) → IsDiagramOf bytes d names
-    → each (λ s. Finds s (name, bytes)) stages None → IsTextOf d names printed → comes_of (text_task stages IsTextOf) name bytes (Ok (done_with printed))
-unfolding comes_of
-stages_give stages IsTextOf name bytes d names printed is clear text = let x : NamedDiagram = record { d = d; names = names } in (clear, (refl, (x, is, text)))
+  -- and where they find nothing, it gives its text
+  pub stages_give : (stages : List Stage) (IsTextOf : DiagramView → NamesView → List ℕ → Type 0) (printed : List ℕ) → found_by d names stages None → IsTextOf d names printed
+      → comes_for (text_task (text_fault ∷ stages) IsTextOf) d names (Ok (done_with printed))
+  unfolding comes_of
+  stages_give stages IsTextOf printed clear text name bytes is = let x : NamedDiagram = record { d = d; names = names } in (((x, is), clear name bytes is), (refl, (x, is, text)))
 
--- and so does one without other stages than the text's fault
-pub text_given : (IsTextOf : DiagramView → NamesView → List ℕ → Type 0) (name bytes : List ℕ) (d : DiagramView) (names : NamesView) (printed : List ℕ) → IsDiagramOf bytes d names → IsTextOf d names printed
-    → comes_of (text_task (text_fault ∷ []) IsTextOf) name bytes (Ok (done_with printed))
-text_given IsTextOf name bytes d names printed is text = let x : NamedDiagram = record { d = d; names = names } in stages_give (text_fault ∷ []) IsTextOf name bytes d names printed is ((x, is), tt) text
+  -- as it does where there are none
+  pub text_given : (IsTextOf : DiagramView → NamesView → List ℕ → Type 0) (printed : List ℕ) → IsTextOf d names printed → comes_for (text_task (text_fault ∷ []) IsTextOf) d names (Ok (done_with printed))
+  text_given IsTextOf printed text = stages_give [] IsTextOf printed (λ name bytes is. tt) text
+
+  -- what comes of any file of the diagram, comes of this one
+  pub refused_here : (task : Task) (name bytes : List ℕ) (refusal : Refusal) → IsDiagramOf bytes d names → TellsFor task d names refusal → TellsOf (comes_of task name bytes) refusal
+  refused_here task name bytes refusal is h = found_too (refusals_of (comes_for task d names)) (refusals_of (comes_of task name bytes)) (λ f found. found name bytes is) (refused_as refusal) h

@@ -1,24 +1,20 @@
 -- The stages of solving one behind another: each counts where those before it find nothing.
 use Rattle.std.proofs.Common.{◌≡◌, ℕ, List, [], ◌∷◌, ◌++◌, inl, inr, refl, None, Some, Ok}
-use Rattle.first_fault.specs.Passes.{Pass, each}
+use Rattle.first_fault.specs.Passes.{each}
 use Rattle.maid_model.specs.Names.{NamesView}
 use Rattle.maid_model.specs.Placing.{HasRelianceOrder, IsRelianceCycle}
 use Rattle.maid_model.specs.Scopes.{KeepsScopedBounds}
 use Rattle.maid_model.specs.Views.{DiagramView}
 use Rattle.rule_solver.specs.Faults.{IsTooLarge}
-use Rattle.maid_app.specs.Diagrams.{NamedDiagram, IsDiagramOf}
+use Rattle.maid_app.specs.Diagrams.{NamedDiagram}
 use Rattle.maid_app.specs.Lines.{cycle_line, too_large_line}
-use Rattle.maid_app.specs.Outcome.{Refused, refused, done_with}
-use Rattle.maid_app.specs.Reading.{found_by}
+use Rattle.maid_app.specs.Outcome.{refused, done_with}
+use Rattle.maid_app.specs.Reading.{comes_for, found_by}
 use Rattle.maid_app.specs.Solve.{IsSolvable, solver_stages}
-use Rattle.maid_app.specs.Stages.{Stage, Finds, TellsBound}
-use Rattle.maid_app.specs.Tasks.{text_task, comes_of}
+use Rattle.maid_app.specs.Stages.{Stage, Finds, TellsBound, text_fault}
+use Rattle.maid_app.specs.Tasks.{text_task}
 use Rattle.maid_app.proofs.Refusals.{stages_give}
 use Rattle.maid_app.specs.declared.status.Status.TheVariants.{Cycle, WeightBound, TooLarge}
-
--- what the solver's stages find in a diagram of these bytes
-abbrev found_in : List ℕ → List ℕ → Pass Refused
-found_in name bytes = each (λ s. Finds s (name, bytes)) solver_stages
 
 module _ (d : DiagramView) (names : NamesView) (told : List ℕ) where
   pub cycle_found : (cycle : List ℕ) → (HasRelianceOrder d.nodes → ⊥) → IsRelianceCycle d.nodes cycle → told ≡ cycle_line names cycle → found_by d names solver_stages (Some (refused Cycle told))
@@ -37,8 +33,8 @@ module _ (d : DiagramView) (names : NamesView) (told : List ℕ) where
       inr ((x, is, order), inr ((x, is, keeps), inl (x, is, (refl, record { cells = cells; work = work; is_size = is_size; says = says }))))
 
 -- they find nothing in a diagram that can be solved
-none_found : (name bytes : List ℕ) (d : DiagramView) (names : NamesView) → IsDiagramOf bytes d names → IsSolvable d → found_in name bytes None
-none_found name bytes d names is can =
+pub none_found : (d : DiagramView) (names : NamesView) → IsSolvable d → found_by d names solver_stages None
+none_found d names can name bytes is =
     let x : NamedDiagram = record { d = d; names = names } in ((x, is, can.order), ((x, is, can.bound), ((x, is, can.small), tt)))
 
 clear_behind : (name bytes : List ℕ) (front back : List Stage) → each (λ s. Finds s (name, bytes)) front None → each (λ s. Finds s (name, bytes)) back None → each (λ s. Finds s (name, bytes)) (front ++ back) None
@@ -46,7 +42,7 @@ clear_behind name bytes [] back clear rest = rest
 clear_behind name bytes (s ∷ front) back clear rest = (clear.0, clear_behind name bytes front back clear.1 rest)
 
 -- so a task of these stages, behind others that find nothing, gives its text
-pub solved_given : (front : List Stage) (IsTextOf : DiagramView → NamesView → List ℕ → Type 0) (name bytes : List ℕ) (d : DiagramView) (names : NamesView) (told : List ℕ) → IsDiagramOf bytes d names
-    → each (λ s. Finds s (name, bytes)) front None → IsSolvable d → IsTextOf d names told → comes_of (text_task (front ++ solver_stages) IsTextOf) name bytes (Ok (done_with told))
-solved_given front IsTextOf name bytes d names told is clear can text =
-    stages_give (front ++ solver_stages) IsTextOf name bytes d names told is (clear_behind name bytes front solver_stages clear (none_found name bytes d names is can)) text
+pub solved_given : (d : DiagramView) (names : NamesView) (front : List Stage) (IsTextOf : DiagramView → NamesView → List ℕ → Type 0) (told : List ℕ) → found_by d names front None → IsSolvable d → IsTextOf d names told
+    → comes_for (text_task (text_fault ∷ front ++ solver_stages) IsTextOf) d names (Ok (done_with told))
+solved_given d names front IsTextOf told clear can text =
+    stages_give d names (front ++ solver_stages) IsTextOf told (λ name bytes is. clear_behind name bytes front solver_stages (clear name bytes is) (none_found d names can name bytes is)) text

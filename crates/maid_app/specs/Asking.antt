@@ -11,9 +11,13 @@ pub record CanBeAsked (agent : List ℕ) (d : DiagramView) (names : NamesView) :
   pub is_agent : IsAgent names agent
   pub solvable : IsSolvable d
 
--- the text's fault, an agent that no node has, and then the solver's
+-- an agent that no node has, and then the solver's
+abbrev pub agent_stages : List ℕ → List Stage
+agent_stages agent = unknown_agent agent ∷ solver_stages
+
+-- the text's fault, and then these
 abbrev pub asking_stages : List ℕ → List Stage
-asking_stages agent = text_fault ∷ unknown_agent agent ∷ solver_stages
+asking_stages agent = text_fault ∷ agent_stages agent
 
 -- the first line: what is asked, and of which agent
 abbrev pub asked_line : List ℕ → List ℕ → List ℕ

@@ -1,5 +1,7 @@
 -- The forms of the code.
+use Rattle.maid_app.specs.Answers.{task_of}
 use Rattle.maid_app.specs.Request.{Request, solve, check, graph, print, trim, pure, update, info, control, evidence, threshold, demo}
+use Rattle.maid_app.specs.Tasks.{Task}
 use Rattle.maid_app.specs.declared.forms.Form.{Form}
 use Rattle.maid_app.specs.declared.forms.Form.TheVariants.{Text, Check}
 use Rattle.maid_app.specs.declared.forms.TextForm.{TextForm}
@@ -20,6 +22,10 @@ text_request (Control file agent) = control file.now agent.now
 text_request (Given file node state) = evidence file.now node.now state.now
 text_request (Threshold file node row state) = threshold file.now node.now row state.now
 text_request (Demo k) = demo k
+
+-- and its task
+abbrev pub task_by : TextForm → Task
+task_by form = task_of (text_request form)
 
 -- the request that a form stands for
 abbrev pub request_by : Form → Request

@@ -5,9 +5,9 @@ use Rattle.first_fault.specs.Answers.{IsFaultOrNoMemory}
 use Rattle.first_fault.specs.Outcomes.{Outcomes, refusals}
 use Rattle.first_fault.specs.Passes.{Pass, always, each}
 use Rattle.maid_model.specs.Names.{NamesView, NamesFit, IsFirstPlace}
-use Rattle.maid_model.specs.Views.{DiagramView, SolvedView}
+use Rattle.maid_model.specs.Views.{DiagramView}
 use Rattle.report_text.specs.Reading.{AreTold}
-use Rattle.maid_app.specs.Check.{CanBeChecked, examining, judging}
+use Rattle.maid_app.specs.Check.{CanBeChecked, judging}
 use Rattle.maid_app.specs.Diagrams.{IsDiagramOf}
 use Rattle.maid_app.specs.Lines.{no_memory_line, fault_line}
 use Rattle.maid_app.specs.Outcome.{Written, Refused, refused, done_with, written}
@@ -41,15 +41,6 @@ abbrev pub TellsTextFault : List ℕ → List ℕ → Refusal → Type 0
 TellsTextFault name bytes refusal =
     IsFaultOrNoMemory refused_as (Finds text_fault (name, bytes)) refusal
 
--- what the stages find in the bytes, or that memory ran out
-abbrev pub TellsStages : List Stage → List ℕ → List ℕ → Refusal → Type 0
-TellsStages stages name bytes refusal =
-    IsFaultOrNoMemory refused_as (each (λ s. Finds s (name, bytes)) stages) refusal
-
--- so of a source's name and bytes
-abbrev pub TellsStagesOf : List Stage → Source → Refusal → Type 0
-TellsStagesOf stages source refusal = TellsStages stages source.name.now source.bytes.now refusal
-
 -- what the stages find in any bytes that stand for the diagram
 abbrev pub found_by : DiagramView → NamesView → List Stage → Pass Refused
 found_by d names stages found = (name bytes : List ℕ) → IsDiagramOf bytes d names
@@ -59,25 +50,12 @@ found_by d names stages found = (name bytes : List ℕ) → IsDiagramOf bytes d 
 abbrev pub TellsFound : DiagramView → NamesView → List Stage → Refusal → Type 0
 TellsFound d names stages refusal = IsFaultOrNoMemory refused_as (found_by d names stages) refusal
 
--- the bytes stand for that diagram, which no stage of solving refuses, and this is its answer
-pub record IsSolved
-    (bytes : List ℕ) (d : DiagramView) (names : NamesView) (solved : SolvedView) : Type 0 where
-  pub is : IsDiagramOf bytes d names
-  pub solvable : IsSolvable d
-  pub solution : IsSolution d solved
-
--- the bytes stand for that diagram, which the solver answers so, and the agent has that number in it
+-- no stage of solving refuses the diagram, this is its answer, and the agent has that number in it
 pub record IsAsked
-    (agent bytes : List ℕ) (d : DiagramView) (names : NamesView) (solved : SolvedView) (number : ℕ)
-    : Type 0 where
-  pub solved_as : IsSolved bytes d names solved
-  pub fit : NamesFit d names
-  pub is_agent : IsFirstPlace names.agents agent number
-
--- so of what the code holds
-abbrev pub HasAsked : List ℕ → Source → Asked → Type 0
-HasAsked agent source made =
-    IsAsked agent source.bytes.now made.diagram made.names made.solved made.agent
+    (agent : List ℕ) (d : DiagramView) (names : NamesView) (asked : Asked) : Type 0 where
+  pub solvable : IsSolvable d
+  pub solution : IsSolution d asked.solved
+  pub is_agent : IsFirstPlace names.agents agent asked.agent
 
 -- the bytes stand for that diagram, which a check can look at, and its names are told apart
 pub record IsExamined (bytes : List ℕ) (d : DiagramView) (names : NamesView) : Type 0 where
@@ -86,27 +64,23 @@ pub record IsExamined (bytes : List ℕ) (d : DiagramView) (names : NamesView) :
   pub told : AreTold names
   pub can : CanBeChecked d
 
--- what comes of the first step of a check on any file whose bytes stand for that diagram
-abbrev pub Examines : DiagramView → NamesView → Outcomes Written Refused
-Examines d names outcome =
-    (name bytes : List ℕ) → IsDiagramOf bytes d names → comes_of examining name bytes outcome
+-- what comes of the task on any file whose bytes stand for the diagram
+abbrev pub comes_for : Task → DiagramView → NamesView → Outcomes Written Refused
+comes_for task d names outcome =
+    (name bytes : List ℕ) → IsDiagramOf bytes d names → comes_of task name bytes outcome
 
--- what comes of the second step on that file, whatever text stands for the diagram
+-- what comes of the second step of a check on that file, whatever text stands for the diagram
 abbrev pub Judges : DiagramView → NamesView → List ℕ → List ℕ → Outcomes Written Refused
 Judges d names name bytes outcome =
     (text : List ℕ) → IsDiagramOf text d names → comes_of (judging text) name bytes outcome
-
--- what comes of the task on a source's name and bytes
-abbrev pub comes_from : Task → Source → Outcomes Written Refused
-comes_from task source = comes_of task source.name.now source.bytes.now
 
 -- this text does, and the run is done
 abbrev pub Finishes : Outcomes Written Refused → Vec ℕ → Type 0
 Finishes Comes text = Comes (Ok (done_with text.items))
 
--- this text comes of the task on the source, and the run is done
-abbrev pub Prints : Task → Source → Vec ℕ → Type 0
-Prints task source text = Finishes (comes_from task source) text
+-- this text comes of the task on the diagram, and the run is done
+abbrev pub Prints : Task → DiagramView → NamesView → Vec ℕ → Type 0
+Prints task d names text = Finishes (comes_for task d names) text
 
 -- this output does
 abbrev pub GivesOutput : Outcomes Written Refused → Output → Type 0
@@ -140,9 +114,9 @@ abbrev pub RefusesAs : Outcomes Written Refused → Status → List ℕ → Type
 RefusesAs Comes NoMemory told = told ≡ no_memory_line
 RefusesAs Comes status told = IsOfBytes status × Comes (Err (refused status told))
 
--- the refusal is what comes of the task on a source
-abbrev pub TellsFrom : Task → Source → Refusal → Type 0
-TellsFrom task source refusal = TellsOf (comes_from task source) refusal
+-- the refusal is what comes of the task on the diagram
+abbrev pub TellsFor : Task → DiagramView → NamesView → Refusal → Type 0
+TellsFor task d names refusal = TellsOf (comes_for task d names) refusal
 
 -- it tells the words of a fault of the source's bytes at that place, or that memory ran out
 abbrev pub TellsFaultAt : Source → ℕ → List ℕ → Refusal → Type 0

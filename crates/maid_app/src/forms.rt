@@ -5,10 +5,12 @@ ghost use Rattle.std.specs.Char.{is_ascii_digit};
 ghost use Rattle.std.specs.List.{list_all};
 ghost use Rattle.std.specs.Option.{option_map};
 ghost use Rattle.std.specs.Str.{bytes_eq};
+ghost use Rattle.maid_model.specs.Names.{NamesFit};
+ghost use Rattle.net_print.specs.RoundTrip.{IsPrintable};
 ghost use Rattle.maid_app.specs.Answers.{Answers};
-ghost use Rattle.maid_app.specs.Reading.{TellsOf, Finishes};
-ghost use Rattle.maid_app.specs.Request.{is_row_size, is_row_word, request_by_evidence, request_by_row, request_by_word, request_by_words, requested, row_in_word, stages_of};
-ghost use Rattle.maid_app.specs.Form.{request_by, text_request, IsFormOf};
+ghost use Rattle.maid_app.specs.Reading.{Finishes, Prints, TellsFor, TellsOf};
+ghost use Rattle.maid_app.specs.Request.{file_name, is_row_size, is_row_word, request_by_evidence, request_by_row, request_by_word, request_by_words, requested, row_in_word, stages_of};
+ghost use Rattle.maid_app.specs.Form.{request_by, task_by, text_request, IsFormOf};
 
 mod asking;
 mod chances;
@@ -27,6 +29,7 @@ mod update;
 
 use crate::reading::Source;
 use crate::refusal::Refusal;
+use maid_model::{Diagram, Names};
 use std::alloc::Global;
 
 /// A form of words whose text is one file's, or is generated.
@@ -118,40 +121,69 @@ pub enum Form<'a> {
 }
 
 impl<'a> TextForm<'a> {
+    /// The name that lines tell for the form's text: its file's, or `demo` for a generated text.
+    pub fn name(self) -> &'a str
+        ensures { result.now ≡ file_name (text_request self.entry) }
+    {
+        match self {
+            TextForm::Solve { file }
+            | TextForm::Graph { file }
+            | TextForm::Print { file }
+            | TextForm::Trim { file }
+            | TextForm::Pure { file }
+            | TextForm::Update { file }
+            | TextForm::Info { file, .. }
+            | TextForm::Control { file, .. }
+            | TextForm::Given { file, .. }
+            | TextForm::Threshold { file, .. } => file,
+            TextForm::Demo { .. } => "demo",
+        }
+    }
+
+    // What the form tells of a diagram.
+    fn answer(self, alloc: Global, diagram: &Diagram, names: &Names) -> Result<Vec<u8>, Refusal>
+        requires fit { NamesFit diagram.now names.now }
+        requires printable { IsPrintable diagram.now names.now }
+        ensures ok { IfOk result (Prints (task_by self.entry) diagram.now names.now) }
+        ensures err { IfErr result (TellsFor (task_by self.entry) diagram.now names.now) }
+    {
+        match self {
+            TextForm::Solve { .. } => solve::answer(alloc, diagram, names),
+            TextForm::Graph { .. } => graph::answer(alloc, diagram, names),
+            TextForm::Print { .. } => print::answer(alloc, diagram, names),
+            TextForm::Trim { .. } => trim::answer(alloc, diagram, names),
+            TextForm::Pure { .. } => pure::answer(alloc, diagram, names),
+            TextForm::Update { .. } => update::answer(alloc, diagram, names),
+            TextForm::Info { agent, .. } => info::answer(alloc, diagram, names, agent),
+            TextForm::Control { agent, .. } => control::answer(alloc, diagram, names, agent),
+            TextForm::Given { node, state, .. } => {
+                given::answer(alloc, diagram, names, node, state)
+            }
+            TextForm::Threshold {
+                node,
+                row,
+                state,
+                ..
+            } => moved::answer(alloc, diagram, names, node, row, state),
+            TextForm::Demo { k } => demo::answer(alloc, diagram, names, k),
+        }
+    }
+
     /// The form's text for `out` from the bytes of its file, or of the generated text.
     ///
     /// # Errors
     ///
-    /// What the form's stages find first, or want of memory.
-    #[tactic(auto, unfolding(crate::specs::Answers::Answers))]
+    /// The fault of the bytes, what the form's other stages find first, or want of memory.
     pub fn text(self, alloc: Global, bytes: &[u8]) -> Result<Vec<u8>, Refusal>
         ensures ok { IfOk result (Finishes (Answers (text_request self.entry) bytes.now)) }
         ensures err { IfErr result (TellsOf (Answers (text_request self.entry) bytes.now)) }
     {
-        match self {
-            TextForm::Solve { file } => solve::answer(alloc, Source { name: file, bytes }),
-            TextForm::Graph { file } => graph::answer(alloc, Source { name: file, bytes }),
-            TextForm::Print { file } => print::answer(alloc, Source { name: file, bytes }),
-            TextForm::Trim { file } => trim::answer(alloc, Source { name: file, bytes }),
-            TextForm::Pure { file } => pure::answer(alloc, Source { name: file, bytes }),
-            TextForm::Update { file } => update::answer(alloc, Source { name: file, bytes }),
-            TextForm::Info { file, agent } => {
-                info::answer(alloc, Source { name: file, bytes }, agent)
-            }
-            TextForm::Control { file, agent } => {
-                control::answer(alloc, Source { name: file, bytes }, agent)
-            }
-            TextForm::Given { file, node, state } => {
-                given::answer(alloc, Source { name: file, bytes }, node, state)
-            }
-            TextForm::Threshold {
-                file,
-                node,
-                row,
-                state,
-            } => moved::answer(alloc, Source { name: file, bytes }, node, row, state),
-            TextForm::Demo { k } => demo::answer(alloc, k, bytes),
-        }
+        let source = Source {
+            name: self.name(),
+            bytes,
+        };
+        let (diagram, names) = source.diagram(alloc)?;
+        self.answer(alloc, &diagram, &names)
     }
 }
 

@@ -84,17 +84,8 @@ fn bytes_for<H: Shelf>(alloc: Global, shelf: &mut H, form: TextForm<'_>) -> Resu
     ensures list { H.list shelf.new ≡ H.list shelf.old }
 {
     match form {
-        TextForm::Solve { file }
-        | TextForm::Graph { file }
-        | TextForm::Print { file }
-        | TextForm::Trim { file }
-        | TextForm::Pure { file }
-        | TextForm::Update { file }
-        | TextForm::Info { file, .. }
-        | TextForm::Control { file, .. }
-        | TextForm::Given { file, .. }
-        | TextForm::Threshold { file, .. } => read_file(alloc, shelf, file, LIMIT),
         TextForm::Demo { k } => Ok(demo_text(alloc, k)?),
+        _ => read_file(alloc, shelf, form.name(), LIMIT),
     }
 }
 

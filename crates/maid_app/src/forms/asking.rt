@@ -2,16 +2,15 @@
 
 ghost use Rattle.std.specs.Prelude.{◌≡◌, IfOk, IfErr, length};
 ghost use Rattle.first_fault.specs.Answers.{IsFaultOrNoMemory};
-ghost use Rattle.maid_model.specs.Names.{IsFirstPlace};
-ghost use Rattle.maid_app.specs.Asking.{asked_line, asking_stages};
+ghost use Rattle.maid_model.specs.Names.{IsFirstPlace, NamesFit};
+ghost use Rattle.maid_app.specs.Asking.{agent_stages, asked_line};
 ghost use Rattle.maid_app.specs.Found.{AreKnown, cycle_told, found_words};
-ghost use Rattle.maid_app.specs.Reading.{TellsStagesOf, HasAsked};
+ghost use Rattle.maid_app.specs.Reading.{IsAsked, TellsFound};
 ghost use Rattle.maid_app.specs.Refusal.{refused_as};
 ghost use Rattle.maid_app.specs.Stages.{agent_pass};
 ghost use Rattle.line_pieces.specs.Pushed.{PushAppends};
 
 use super::solve::solve_diagram;
-use crate::reading::Source;
 use crate::refusal::{Refusal, told};
 use crate::{Status, lines};
 use line_pieces::Piece::{Fraction, Quoted, Text};
@@ -23,10 +22,6 @@ use std::alloc::{AllocError, Global};
 /// What is asked of one agent of a solved diagram.
 #[derive(Drop)]
 pub struct Asked {
-    /// The diagram.
-    pub diagram: Diagram,
-    /// The names in its text.
-    pub names: Names,
     /// Its answer.
     pub solved: Solved,
     /// The agent's number.
@@ -47,21 +42,19 @@ fn number_of(alloc: Global, names: &Names, agent: &str) -> Result<usize, Refusal
     }
 }
 
-/// The diagram that a text's bytes stand for, its answer, and the number of the agent of that name in it.
+/// The diagram's answer, and the number of the agent of that name in it.
 ///
 /// # Errors
 ///
-/// The fault of the bytes, an agent that no node has, or those of [`solve_diagram`].
-pub fn ask(alloc: Global, source: Source<'_>, agent: &str) -> Result<Asked, Refusal>
-    ensures ok { IfOk result (HasAsked agent.now source.entry) }
-    ensures err { IfErr result (TellsStagesOf (asking_stages agent.now) source.entry) }
+/// An agent that no node has, or those of [`solve_diagram`].
+pub fn ask(alloc: Global, diagram: &Diagram, names: &Names, agent: &str) -> Result<Asked, Refusal>
+    requires { NamesFit diagram.now names.now }
+    ensures ok { IfOk result (IsAsked agent.now diagram.now names.now) }
+    ensures err { IfErr result (TellsFound diagram.now names.now (agent_stages agent.now)) }
 {
-    let (diagram, names) = source.diagram(alloc)?;
-    let number = number_of(alloc, &names, agent)?;
-    let solved = solve_diagram(alloc, &diagram, &names)?;
+    let number = number_of(alloc, names, agent)?;
+    let solved = solve_diagram(alloc, diagram, names)?;
     Ok(Asked {
-        diagram,
-        names,
         solved,
         agent: number,
     })

@@ -6,7 +6,7 @@ ghost use Rattle.maid_model.specs.Names.{NamesFit};
 ghost use Rattle.maid_model.specs.Scopes.{KeepsScopedBounds};
 ghost use Rattle.report_text.specs.Reading.{AreTold, bad_line, report_pass};
 ghost use Rattle.maid_app.specs.Check.{CanBeChecked, cause_words, examining, verdict_line, status_after};
-ghost use Rattle.maid_app.specs.Reading.{Examines, IsExamined, Judges, TellsOf, GivesOutput};
+ghost use Rattle.maid_app.specs.Reading.{IsExamined, Judges, TellsFor, TellsOf, GivesOutput};
 ghost use Rattle.maid_app.specs.Tasks.{comes_of};
 
 use crate::output::Output;
@@ -25,7 +25,7 @@ use weight_scale::{BoundPlace, bound};
 fn keep_bound(alloc: Global, diagram: &Diagram, names: &Names) -> Result<(), Refusal>
     requires { NamesFit diagram.now names.now }
     ensures ok { OnOk result (KeepsScopedBounds diagram.now) }
-    ensures err { IfErr result (λ refusal. TellsOf (Examines diagram.now names.now) refusal) }
+    ensures err { IfErr result (TellsFor examining diagram.now names.now) }
 {
     match bound(diagram) {
         BoundPlace::Within => Ok(()),

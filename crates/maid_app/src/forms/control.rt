@@ -3,16 +3,16 @@
 ghost use Rattle.std.specs.Prelude.{◌≡◌, [], All, IfOk, IfErr, if◌then◌else◌, length};
 ghost use Rattle.maid_app.specs.Control.{control_line, control_nodes, control_text, weighing_control};
 ghost use Rattle.maid_app.specs.Found.{AreKnown};
-ghost use Rattle.maid_app.specs.Reading.{Prints, TellsFrom};
+ghost use Rattle.maid_app.specs.Reading.{Prints, TellsFor};
+ghost use Rattle.maid_model.specs.Names.{NamesFit};
 ghost use Rattle.line_pieces.specs.Pushed.{PushAppends};
 
 use super::asking::{ask, asked_line, push_found};
-use crate::reading::Source;
 use crate::refusal::Refusal;
 use control_incentive::{ControlLine, control};
 use line_pieces::Piece::Text;
 use line_pieces::push_pieces;
-use maid_model::Names;
+use maid_model::{Diagram, Names};
 use std::alloc::{AllocError, Global};
 
 // The words of a flag where it holds, and nothing else.
@@ -57,17 +57,23 @@ fn control_text(
     Ok(text)
 }
 
-/// What control is worth to the agent of that name in the diagram that a file's bytes stand for, and which incentives it
-/// has: a line for each chance node.
+/// What control is worth to the agent of that name in the diagram, and which incentives it has: a line for each chance
+/// node.
 ///
 /// # Errors
 ///
-/// The fault of the bytes, an agent that no node has, what the solver refuses the diagram for, or want of memory.
-pub fn answer(alloc: Global, source: Source<'_>, agent: &str) -> Result<Vec<u8>, Refusal>
-    ensures ok { IfOk result (Prints (weighing_control agent.now) source.entry) }
-    ensures err { IfErr result (TellsFrom (weighing_control agent.now) source.entry) }
+/// Those of [`ask`], or want of memory.
+pub fn answer(
+    alloc: Global,
+    diagram: &Diagram,
+    names: &Names,
+    agent: &str,
+) -> Result<Vec<u8>, Refusal>
+    requires { NamesFit diagram.now names.now }
+    ensures ok { IfOk result (Prints (weighing_control agent.now) diagram.now names.now) }
+    ensures err { IfErr result (TellsFor (weighing_control agent.now) diagram.now names.now) }
 {
-    let asked = ask(alloc, source, agent)?;
-    let lines = control(alloc, &asked.diagram, &asked.solved, asked.agent)?;
-    Ok(control_text(alloc, &asked.names, agent.as_bytes(), &lines)?)
+    let asked = ask(alloc, diagram, names, agent)?;
+    let lines = control(alloc, diagram, &asked.solved, asked.agent)?;
+    Ok(control_text(alloc, names, agent.as_bytes(), &lines)?)
 }

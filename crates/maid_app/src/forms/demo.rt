@@ -1,12 +1,11 @@
 //! `demo K`: a summary of the solved diagram of a generated text.
 
-ghost use Rattle.std.specs.Prelude.{◌≡◌, IfOk, IfErr, codes, length};
+ghost use Rattle.std.specs.Prelude.{◌≡◌, IfOk, IfErr, length};
 ghost use Rattle.maid_app.specs.Demo.{summary, summing};
-ghost use Rattle.maid_app.specs.Reading.{TellsOf, Finishes};
-ghost use Rattle.maid_app.specs.Tasks.{comes_of};
+ghost use Rattle.maid_app.specs.Reading.{Prints, TellsFor};
+ghost use Rattle.maid_model.specs.Names.{NamesFit};
 
-use super::solve::solved;
-use crate::reading::Source;
+use super::solve::solve_diagram;
 use crate::refusal::Refusal;
 use app_lines::gain_lines;
 use line_pieces::Piece::{Number, Text};
@@ -39,22 +38,16 @@ fn summary(
     )
 }
 
-/// The summary of the solved diagram of the generated text of `k` stages, which is the bytes. It is solved as that of
-/// a file is.
+/// The summary of the solved diagram of the generated text of `k` stages. It is solved as that of a file is.
 ///
 /// # Errors
 ///
-/// Those of `solve`, with `demo` as the text's name.
-pub fn answer(alloc: Global, k: usize, bytes: &[u8]) -> Result<Vec<u8>, Refusal>
-    ensures ok { IfOk result (Finishes (comes_of (summing k) (codes "demo") bytes.now)) }
-    ensures err { IfErr result (TellsOf (comes_of (summing k) (codes "demo") bytes.now)) }
+/// Those of [`solve_diagram`].
+pub fn answer(alloc: Global, diagram: &Diagram, names: &Names, k: usize) -> Result<Vec<u8>, Refusal>
+    requires { NamesFit diagram.now names.now }
+    ensures ok { IfOk result (Prints (summing k) diagram.now names.now) }
+    ensures err { IfErr result (TellsFor (summing k) diagram.now names.now) }
 {
-    let (diagram, names, answer) = solved(
-        alloc,
-        Source {
-            name: "demo",
-            bytes,
-        },
-    )?;
-    Ok(summary(alloc, k, &diagram, &names, &answer)?)
+    let solved = solve_diagram(alloc, diagram, names)?;
+    Ok(summary(alloc, k, diagram, names, &solved)?)
 }

@@ -6,10 +6,9 @@ ghost use Rattle.maid_model.specs.Names.{NamesFit, labels_of};
 ghost use Rattle.maid_model.specs.Nodes.{IsDecision, rows_of, rows_under, states_of};
 ghost use Rattle.maid_app.specs.Chances.{IsStatePlace};
 ghost use Rattle.maid_app.specs.Given.{conditioning, evidence_stages, given_front, conditioned_text, IsGivenFault, PushesAnswerGiven, PushesAnswersGiven, PushesRowGiven, shows_place};
-ghost use Rattle.maid_app.specs.Reading.{Prints, TellsFound, TellsFrom};
+ghost use Rattle.maid_app.specs.Reading.{Prints, TellsFor, TellsFound};
 
 use super::chances::{StatePlace, find_state};
-use crate::reading::Source;
 use crate::refusal::{Refusal, told};
 use crate::{Status, lines};
 use app_lines::{gain_lines, list_line};
@@ -215,28 +214,28 @@ fn given_text(
     Ok(text)
 }
 
-/// The answer of the diagram that a file's bytes stand for, where the chance node of that name is known to have the
-/// state with that label and every decision sees it: each decision's rows with that state, and what the plan is worth
-/// to each agent where the node has it.
+/// The answer of the diagram where the chance node of that name is known to have the state with that label and every
+/// decision sees it: each decision's rows with that state, and what the plan is worth to each agent where the node has
+/// it.
 ///
 /// # Errors
 ///
-/// The fault of the bytes, an unknown node or state, a node below a decision, too large rules, the relevance cycle, the
-/// place at which the weight bound is passed, the cells and the work of a run that passes a limit, impossible evidence,
-/// or want of memory.
+/// An unknown node or state, a node below a decision, too large rules, the relevance cycle, the place at which the weight
+/// bound is passed, the cells and the work of a run that passes a limit, impossible evidence, or want of memory.
 pub fn answer(
     alloc: Global,
-    source: Source<'_>,
+    diagram: &Diagram,
+    names: &Names,
     node: &str,
     state: &str,
 ) -> Result<Vec<u8>, Refusal>
-    ensures ok { IfOk result (Prints (conditioning node.now state.now) source.entry) }
-    ensures err { IfErr result (TellsFrom (conditioning node.now state.now) source.entry) }
+    requires { NamesFit diagram.now names.now }
+    ensures ok { IfOk result (Prints (conditioning node.now state.now) diagram.now names.now) }
+    ensures err { IfErr result (TellsFor (conditioning node.now state.now) diagram.now names.now) }
 {
-    let (diagram, names) = source.diagram(alloc)?;
-    let place = find_state(alloc, &diagram, &names, node, state)?;
-    match given(alloc, &diagram, place.node, place.state) {
-        Ok(conditioned) => Ok(given_text(alloc, &names, place, &conditioned)?),
-        Err(fault) => Err(refusal(alloc, &diagram, &names, node, state, place, &fault)),
+    let place = find_state(alloc, diagram, names, node, state)?;
+    match given(alloc, diagram, place.node, place.state) {
+        Ok(conditioned) => Ok(given_text(alloc, names, place, &conditioned)?),
+        Err(fault) => Err(refusal(alloc, diagram, names, node, state, place, &fault)),
     }
 }

@@ -4,11 +4,10 @@ ghost use Rattle.std.specs.Prelude.{◌<◌, All, IfOk, IfErr, length};
 ghost use Rattle.maid_model.specs.Names.{NamesFit};
 ghost use Rattle.relevance_graph.specs.Relevant.{IsRelevance};
 ghost use Rattle.maid_app.specs.Graph.{graphing, IsGraphText, IsLastLine, relies_line};
-ghost use Rattle.maid_app.specs.Reading.{Prints, TellsFrom};
+ghost use Rattle.maid_app.specs.Reading.{Prints, TellsFor};
 ghost use Rattle.line_pieces.specs.Pushed.{PushAppends};
 ghost use Rattle.maid_app.specs.GraphLines.{PushesReliesLine, PushesReliesLines};
 
-use crate::reading::Source;
 use crate::refusal::Refusal;
 use app_lines::list_line;
 use line_pieces::Piece::Text;
@@ -106,16 +105,16 @@ fn graph_text(
     Ok(out)
 }
 
-/// Who relies on whom in the diagram that a file's bytes stand for, and the order of solving or the relevance cycle.
+/// Who relies on whom in the diagram, and the order of solving or the relevance cycle.
 ///
 /// # Errors
 ///
-/// The fault of the bytes, or want of memory.
-pub fn answer(alloc: Global, source: Source<'_>) -> Result<Vec<u8>, Refusal>
-    ensures ok { IfOk result (Prints graphing source.entry) }
-    ensures err { IfErr result (TellsFrom graphing source.entry) }
+/// Want of memory.
+pub fn answer(alloc: Global, diagram: &Diagram, names: &Names) -> Result<Vec<u8>, Refusal>
+    requires { NamesFit diagram.now names.now }
+    ensures ok { IfOk result (Prints graphing diagram.now names.now) }
+    ensures err { IfErr result (TellsFor graphing diagram.now names.now) }
 {
-    let (diagram, names) = source.diagram(alloc)?;
-    let relevance = find_relevance(alloc, &diagram)?;
-    Ok(graph_text(alloc, &diagram, &names, &relevance)?)
+    let relevance = find_relevance(alloc, diagram)?;
+    Ok(graph_text(alloc, diagram, names, &relevance)?)
 }

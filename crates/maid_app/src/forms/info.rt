@@ -3,16 +3,16 @@
 ghost use Rattle.std.specs.Prelude.{◌≡◌, All, IfOk, IfErr, length};
 ghost use Rattle.maid_app.specs.Found.{AreKnown};
 ghost use Rattle.maid_app.specs.Info.{info_line, info_nodes, info_text, weighing_information};
-ghost use Rattle.maid_app.specs.Reading.{Prints, TellsFrom};
+ghost use Rattle.maid_app.specs.Reading.{Prints, TellsFor};
+ghost use Rattle.maid_model.specs.Names.{NamesFit};
 ghost use Rattle.line_pieces.specs.Pushed.{PushAppends};
 
 use super::asking::{ask, asked_line, push_found};
-use crate::reading::Source;
 use crate::refusal::Refusal;
 use info_value::{InfoLine, info};
 use line_pieces::Piece::Text;
 use line_pieces::push_pieces;
-use maid_model::Names;
+use maid_model::{Diagram, Names};
 use std::alloc::{AllocError, Global};
 
 // Appends the line of an arc.
@@ -51,17 +51,23 @@ fn info_text(
     Ok(text)
 }
 
-/// What information is worth to the agent of that name in the diagram that a file's bytes stand for: a line for each of
-/// its decisions and each other node that the decision sees or might see.
+/// What information is worth to the agent of that name in the diagram: a line for each of its decisions and each other
+/// node that the decision sees or might see.
 ///
 /// # Errors
 ///
-/// The fault of the bytes, an agent that no node has, what the solver refuses the diagram for, or want of memory.
-pub fn answer(alloc: Global, source: Source<'_>, agent: &str) -> Result<Vec<u8>, Refusal>
-    ensures ok { IfOk result (Prints (weighing_information agent.now) source.entry) }
-    ensures err { IfErr result (TellsFrom (weighing_information agent.now) source.entry) }
+/// Those of [`ask`], or want of memory.
+pub fn answer(
+    alloc: Global,
+    diagram: &Diagram,
+    names: &Names,
+    agent: &str,
+) -> Result<Vec<u8>, Refusal>
+    requires { NamesFit diagram.now names.now }
+    ensures ok { IfOk result (Prints (weighing_information agent.now) diagram.now names.now) }
+    ensures err { IfErr result (TellsFor (weighing_information agent.now) diagram.now names.now) }
 {
-    let asked = ask(alloc, source, agent)?;
-    let lines = info(alloc, &asked.diagram, &asked.solved, asked.agent)?;
-    Ok(info_text(alloc, &asked.names, agent.as_bytes(), &lines)?)
+    let asked = ask(alloc, diagram, names, agent)?;
+    let lines = info(alloc, diagram, &asked.solved, asked.agent)?;
+    Ok(info_text(alloc, names, agent.as_bytes(), &lines)?)
 }

@@ -7,14 +7,13 @@ ghost use Rattle.maid_model.specs.Names.{NamesFit, labels_of};
 ghost use Rattle.maid_model.specs.Nodes.{node_at, rows_of};
 ghost use Rattle.threshold.specs.Faults.{OthersWeighNought};
 ghost use Rattle.threshold.specs.Intervals.{TellsNow, TellsSpan};
-ghost use Rattle.maid_app.specs.Reading.{Prints, TellsFrom};
+ghost use Rattle.maid_app.specs.Reading.{Prints, TellsFor};
 ghost use Rattle.maid_app.specs.Solve.{IsSolvable};
 ghost use Rattle.maid_app.specs.Threshold.{IsCellPlace, moved_pass, moving, row_pass, IsOnlySpanAt, IsThresholdText, StaysPerfectAt};
 ghost use Rattle.maid_app.specs.Refusal.{RefusesBy};
 
 use super::chances::{StatePlace, find_state};
 use super::solve::solve_diagram;
-use crate::reading::Source;
 use crate::refusal::{Refusal, told};
 use crate::{Status, lines};
 use line_pieces::Piece::{Fraction, Number, Quoted, Text};
@@ -97,7 +96,8 @@ fn find_interval(
     }
 }
 
-// The node, the row, the state and its probability, and the ends of the interval.
+// The node, the row, the state and its probability, and the ends of the interval. An interval has a field `now`, so the
+// clause says whose value it means.
 fn threshold_text<'a>(
     alloc: Global,
     names: &'a Names,
@@ -131,28 +131,29 @@ fn threshold_text<'a>(
 }
 
 /// How far the probability of the state with that label may move in that row of the chance node of
-/// that name, counted from 1, while the answered rules of the diagram that a file's bytes stand for
-/// stay best. It solves the diagram, and then takes the time of [`span`].
+/// that name, counted from 1, while the answered rules of the diagram stay best. It solves the
+/// diagram, and then takes the time of [`span`].
 ///
 /// # Errors
 ///
-/// The fault of the bytes, an unknown node, state or row, a row that gives no other state any
-/// weight, what the solver refuses the diagram for, the place at which the changed diagrams pass
-/// the weight bound, or want of memory.
+/// An unknown node, state or row, a row that gives no other state any weight, what the solver
+/// refuses the diagram for, the place at which the changed diagrams pass the weight bound, or want
+/// of memory.
 pub fn answer(
     alloc: Global,
-    source: Source<'_>,
+    diagram: &Diagram,
+    names: &Names,
     node: &str,
     row: usize,
     state: &str,
 ) -> Result<Vec<u8>, Refusal>
-    ensures ok { IfOk result (Prints (moving node.now row state.now) source.entry) }
-    ensures err { IfErr result (TellsFrom (moving node.now row state.now) source.entry) }
+    requires { NamesFit diagram.now names.now }
+    ensures ok { IfOk result (Prints (moving node.now row state.now) diagram.now names.now) }
+    ensures err { IfErr result (TellsFor (moving node.now row state.now) diagram.now names.now) }
 {
-    let (diagram, names) = source.diagram(alloc)?;
-    let place = find_state(alloc, &diagram, &names, node, state)?;
-    keep_row(alloc, &diagram, place, row, node)?;
-    let solved = solve_diagram(alloc, &diagram, &names)?;
-    let interval = find_interval(alloc, &diagram, &names, &solved, place, row)?;
-    Ok(threshold_text(alloc, &names, place, row, &interval)?)
+    let place = find_state(alloc, diagram, names, node, state)?;
+    keep_row(alloc, diagram, place, row, node)?;
+    let solved = solve_diagram(alloc, diagram, names)?;
+    let interval = find_interval(alloc, diagram, names, &solved, place, row)?;
+    Ok(threshold_text(alloc, names, place, row, &interval)?)
 }

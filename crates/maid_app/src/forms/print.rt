@@ -2,23 +2,24 @@
 
 ghost use Rattle.std.specs.Prelude.{IfOk, IfErr};
 ghost use Rattle.maid_app.specs.Print.{printing};
-ghost use Rattle.maid_app.specs.Reading.{Prints, TellsFrom};
+ghost use Rattle.maid_app.specs.Reading.{Prints, TellsFor};
+ghost use Rattle.net_print.specs.RoundTrip.{IsPrintable};
 
-use crate::reading::Source;
 use crate::refusal::Refusal;
+use maid_model::{Diagram, Names};
 use net_print::{print, printed_texts_read_back};
 use std::alloc::Global;
 
-/// The text of the diagram that a file's bytes stand for. It stands for the same diagram and names.
+/// The text of the diagram. It stands for the same diagram and names.
 ///
 /// # Errors
 ///
-/// The fault of the bytes, or want of memory.
-pub fn answer(alloc: Global, source: Source<'_>) -> Result<Vec<u8>, Refusal>
-    ensures ok { IfOk result (Prints printing source.entry) }
-    ensures err { IfErr result (TellsFrom printing source.entry) }
+/// Want of memory.
+pub fn answer(alloc: Global, diagram: &Diagram, names: &Names) -> Result<Vec<u8>, Refusal>
+    requires { IsPrintable diagram.now names.now }
+    ensures ok { IfOk result (Prints printing diagram.now names.now) }
+    ensures err { IfErr result (TellsFor printing diagram.now names.now) }
 {
-    let (diagram, names) = source.diagram(alloc)?;
     printed_texts_read_back();
-    Ok(print(alloc, &diagram, &names)?)
+    Ok(print(alloc, diagram, names)?)
 }

@@ -6,9 +6,8 @@ ghost use Rattle.first_fault.specs.Answers.{IsFaultOrNoMemory};
 ghost use Rattle.maid_model.specs.Names.{NamesFit};
 ghost use Rattle.pure_search.specs.Faults.{pure_fault, pure_pass};
 ghost use Rattle.maid_app.specs.Pure.{pure_text, search_stages, searching};
-ghost use Rattle.maid_app.specs.Reading.{Prints, TellsFound, TellsFrom};
+ghost use Rattle.maid_app.specs.Reading.{Prints, TellsFor, TellsFound};
 
-use crate::reading::Source;
 use crate::refusal::{Refusal, told};
 use crate::{Status, lines};
 use app_lines::{choice_lines, gain_lines};
@@ -61,19 +60,19 @@ fn pure_text(
     )
 }
 
-/// The first pure equilibrium of the diagram that a file's bytes stand for, and what it is worth to each agent.
+/// The first pure equilibrium of the diagram, and what it is worth to each agent.
 ///
 /// # Errors
 ///
-/// The fault of the bytes, the place at which the weight bound is passed, the counts of profiles and leaves where they
-/// are too many, how many pure profiles there are where none is an equilibrium, or want of memory.
-pub fn answer(alloc: Global, source: Source<'_>) -> Result<Vec<u8>, Refusal>
-    ensures ok { IfOk result (Prints searching source.entry) }
-    ensures err { IfErr result (TellsFrom searching source.entry) }
+/// The place at which the weight bound is passed, the counts of profiles and leaves where they are too many, how many
+/// pure profiles there are where none is an equilibrium, or want of memory.
+pub fn answer(alloc: Global, diagram: &Diagram, names: &Names) -> Result<Vec<u8>, Refusal>
+    requires { NamesFit diagram.now names.now }
+    ensures ok { IfOk result (Prints searching diagram.now names.now) }
+    ensures err { IfErr result (TellsFor searching diagram.now names.now) }
 {
-    let (diagram, names) = source.diagram(alloc)?;
-    match first_pure(alloc, &diagram) {
-        Ok(found) => Ok(pure_text(alloc, &diagram, &names, &found)?),
-        Err(fault) => Err(refusal(alloc, &diagram, &names, fault)),
+    match first_pure(alloc, diagram) {
+        Ok(found) => Ok(pure_text(alloc, diagram, names, &found)?),
+        Err(fault) => Err(refusal(alloc, diagram, names, fault)),
     }
 }

@@ -3,11 +3,10 @@
 ghost use Rattle.std.specs.Prelude.{IfOk, IfErr, OnOk};
 ghost use Rattle.first_fault.specs.Answers.{IsFaultOrNoMemory};
 ghost use Rattle.maid_model.specs.Names.{NamesFit};
-ghost use Rattle.maid_app.specs.Reading.{IsSolved, Prints, TellsFound, TellsStagesOf, TellsFrom};
-ghost use Rattle.maid_app.specs.Solve.{IsSolution, IsSolvable, solver_stages, solving, solving_stages};
+ghost use Rattle.maid_app.specs.Reading.{Prints, TellsFor, TellsFound};
+ghost use Rattle.maid_app.specs.Solve.{IsSolution, IsSolvable, solver_stages, solving};
 ghost use Rattle.rule_solver.specs.Faults.{solve_fault, solve_pass};
 
-use crate::reading::Source;
 use crate::refusal::{Refusal, told};
 use crate::{Status, lines};
 use app_lines::list_line;
@@ -57,30 +56,16 @@ pub fn solve_diagram(alloc: Global, diagram: &Diagram, names: &Names) -> Result<
     }
 }
 
-/// The diagram that a text's bytes stand for, the names in it, and its answer.
+/// The report of the diagram's answer.
 ///
 /// # Errors
 ///
-/// The fault of the bytes, or those of [`solve_diagram`].
-pub fn solved(alloc: Global, source: Source<'_>) -> Result<(Diagram, Names, Solved), Refusal>
-    ensures ok { IfOk result (λ made. IsSolved source.entry.bytes.now made.0 made.1 made.2) }
-    ensures fit { IfOk result (λ made. NamesFit made.0 made.1) }
-    ensures err { IfErr result (TellsStagesOf solving_stages source.entry) }
+/// Those of [`solve_diagram`].
+pub fn answer(alloc: Global, diagram: &Diagram, names: &Names) -> Result<Vec<u8>, Refusal>
+    requires { NamesFit diagram.now names.now }
+    ensures ok { IfOk result (Prints solving diagram.now names.now) }
+    ensures err { IfErr result (TellsFor solving diagram.now names.now) }
 {
-    let (diagram, names) = source.diagram(alloc)?;
-    let solved = solve_diagram(alloc, &diagram, &names)?;
-    Ok((diagram, names, solved))
-}
-
-/// The report of the answer of the diagram that a file's bytes stand for.
-///
-/// # Errors
-///
-/// Those of [`solved`].
-pub fn answer(alloc: Global, source: Source<'_>) -> Result<Vec<u8>, Refusal>
-    ensures ok { IfOk result (Prints solving source.entry) }
-    ensures err { IfErr result (TellsFrom solving source.entry) }
-{
-    let (diagram, names, answer) = solved(alloc, source)?;
-    Ok(print_report(alloc, &diagram, &names, &answer)?)
+    let solved = solve_diagram(alloc, diagram, names)?;
+    Ok(print_report(alloc, diagram, names, &solved)?)
 }

@@ -3,10 +3,10 @@
 ghost use Rattle.std.specs.Prelude.{IfOk, IfErr};
 ghost use Rattle.app_lines.specs.Removed.{AreNamed};
 ghost use Rattle.maid_model.specs.Names.{NamesFit};
-ghost use Rattle.maid_app.specs.Reading.{Prints, TellsFrom};
+ghost use Rattle.maid_app.specs.Reading.{Prints, TellsFor};
+ghost use Rattle.net_print.specs.RoundTrip.{IsPrintable};
 ghost use Rattle.maid_app.specs.Trim.{trimming, IsTrimmedText};
 
-use crate::reading::Source;
 use crate::refusal::Refusal;
 use app_lines::removed_lines;
 use maid_model::{Diagram, Names};
@@ -30,18 +30,18 @@ fn trimmed_text(
     Ok(text)
 }
 
-/// The arcs of the diagram that a file's bytes stand for which its decisions do not need, a comment line each, and then
-/// the text of the diagram without them. The whole stands for the trimmed diagram and the same names.
+/// The arcs of the diagram that its decisions do not need, a comment line each, and then the text of the diagram without
+/// them. The whole stands for the trimmed diagram and the same names.
 ///
 /// # Errors
 ///
-/// The fault of the bytes, or want of memory.
-pub fn answer(alloc: Global, source: Source<'_>) -> Result<Vec<u8>, Refusal>
-    ensures ok { IfOk result (Prints trimming source.entry) }
-    ensures err { IfErr result (TellsFrom trimming source.entry) }
+/// Want of memory.
+pub fn answer(alloc: Global, diagram: &Diagram, names: &Names) -> Result<Vec<u8>, Refusal>
+    requires { IsPrintable diagram.now names.now }
+    ensures ok { IfOk result (Prints trimming diagram.now names.now) }
+    ensures err { IfErr result (TellsFor trimming diagram.now names.now) }
 {
-    let (diagram, names) = source.diagram(alloc)?;
     commented_texts_read_back();
-    let less = trim(alloc, &diagram)?;
-    Ok(trimmed_text(alloc, &less.diagram, &names, &less.removed)?)
+    let less = trim(alloc, diagram)?;
+    Ok(trimmed_text(alloc, &less.diagram, names, &less.removed)?)
 }

@@ -3,10 +3,9 @@
 ghost use Rattle.std.specs.Prelude.{◌≡◌, All, IfOk, IfErr, length};
 ghost use Rattle.app_lines.specs.Choices.{HasChoices};
 ghost use Rattle.maid_model.specs.Names.{NamesFit};
-ghost use Rattle.maid_app.specs.Reading.{Prints, TellsFound, TellsFrom};
+ghost use Rattle.maid_app.specs.Reading.{Prints, TellsFor, TellsFound};
 ghost use Rattle.maid_app.specs.Update.{update_stages, update_text, updating, IsUpdateFault};
 
-use crate::reading::Source;
 use crate::refusal::{Refusal, told};
 use crate::{Status, lines};
 use app_lines::{choice_lines, gain_lines};
@@ -71,20 +70,20 @@ fn update_text(
     )
 }
 
-/// The result of updating the diagram that a file's bytes stand for (Lauritzen and Nilsson 2001), and what it is worth to
-/// each agent. A run takes at most 10,000 rounds.
+/// The result of updating the diagram (Lauritzen and Nilsson 2001), and what it is worth to each agent. A run takes at
+/// most 10,000 rounds.
 ///
 /// # Errors
 ///
-/// The fault of the bytes, two owners of decisions, the place at which the weight bound is passed, the cells and the work
-/// of a run that passes a limit, rounds that all raise, or want of memory.
-pub fn answer(alloc: Global, source: Source<'_>) -> Result<Vec<u8>, Refusal>
-    ensures ok { IfOk result (Prints updating source.entry) }
-    ensures err { IfErr result (TellsFrom updating source.entry) }
+/// Two owners of decisions, the place at which the weight bound is passed, the cells and the work of a run that passes a
+/// limit, rounds that all raise, or want of memory.
+pub fn answer(alloc: Global, diagram: &Diagram, names: &Names) -> Result<Vec<u8>, Refusal>
+    requires { NamesFit diagram.now names.now }
+    ensures ok { IfOk result (Prints updating diagram.now names.now) }
+    ensures err { IfErr result (TellsFor updating diagram.now names.now) }
 {
-    let (diagram, names) = source.diagram(alloc)?;
-    match update(alloc, &diagram, MOST_ROUNDS) {
-        Ok(updated) => Ok(update_text(alloc, &diagram, &names, &updated)?),
-        Err(fault) => Err(refusal(alloc, &diagram, &names, &fault)),
+    match update(alloc, diagram, MOST_ROUNDS) {
+        Ok(updated) => Ok(update_text(alloc, diagram, names, &updated)?),
+        Err(fault) => Err(refusal(alloc, diagram, names, &fault)),
     }
 }

@@ -1,13 +1,12 @@
-use Rattle.std.proofs.Common.{◌≡◌, ◌∙◌, ap, Err, subst}
+use Rattle.std.proofs.Common.{◌∙◌, ap, subst}
 use Rattle.first_fault.specs.Answers.{IsFaultOrNoMemory}
 use Rattle.first_fault.specs.Outcomes.{refusals as refusals_of}
 use Rattle.report_text.specs.Reading.{bad_line, report_pass}
 use Rattle.maid_app.specs.Lines.{bad_line_line}
-use Rattle.maid_app.specs.Outcome.{refused}
 use Rattle.maid_app.specs.Reading.{Judges}
 use Rattle.maid_app.specs.declared.status.Status.TheVariants.{TextFault}
 use Rattle.maid_app.proofs.Checks.{line_judged}
-use Rattle.maid_app.proofs.Refusals.{told_gives, if_ok_then}
+use Rattle.maid_app.proofs.Refusals.{told_gives}
 use Rattle.maid_app.proofs.forms.check.bad_report.Goals as goal
 
 -- the line tells the report's bad line
@@ -17,12 +16,11 @@ returns-in-BadLine c =
     let names = c.args.names.now in
     let name = c.args.name.now in
     let bytes = c.args.bytes.now in
-    told_gives (refusals_of (Judges d names name bytes)) TextFault c.bad_line.result c.told.result
-    (if_ok_then c.bad_line.result (λ t. t.items ≡ bad_line_line c.as_bytes.result.now c.in-BadLine.line) (λ t. Judges d names name bytes (Err (refused TextFault t.items)))
-    (λ t e. line_judged d names t.items name bytes (record {
+    told_gives (refusals_of (Judges d names name bytes)) TextFault (bad_line_line c.as_bytes.result.now c.in-BadLine.line) c.bad_line.result c.told.result
+    (λ told e. line_judged d names told name bytes (record {
       at = c.in-BadLine.line;
       is_bad = subst (IsFaultOrNoMemory bad_line (report_pass d names bytes)) c.in-BadLine.is c.requires;
       says = e ∙ ap (λ n. bad_line_line n c.in-BadLine.line) c.as_bytes.ensures.value;
     }))
-    c.bad_line.ensures)
+    c.bad_line.ensures
     c.told.ensures

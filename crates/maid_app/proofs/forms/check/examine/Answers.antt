@@ -1,14 +1,13 @@
-use Rattle.std.proofs.Common.{◌≡◌, ◌∙◌, rules, refl, ap, Err, [], ◌∷◌}
+use Rattle.std.proofs.Common.{◌∙◌, rules, refl, ap, [], ◌∷◌}
 use Rattle.first_fault.specs.Outcomes.{refusals as refusals_of}
 use Rattle.maid_app.specs.Lines.{leaves_line}
-use Rattle.maid_app.specs.Outcome.{refused}
 use Rattle.maid_app.specs.declared.status.Status.TheVariants.{TooLarge}
 use Rattle.maid_app.specs.Check.{examining}
-use Rattle.maid_app.specs.Reading.{Examines, TellsTextFault, TellsOf}
+use Rattle.maid_app.specs.Reading.{TellsFor, TellsTextFault, TellsOf}
 use Rattle.maid_app.specs.Stages.{weight_bound, too_many_leaves}
 use Rattle.maid_app.specs.Tasks.{comes_of}
-use Rattle.maid_app.proofs.Checks.{examines_here, few_leaves, leaves_examined, many_leaves}
-use Rattle.maid_app.proofs.Refusals.{if_err_then, if_ok_then, text_refused, told_gives}
+use Rattle.maid_app.proofs.Checks.{few_leaves, leaves_examined, many_leaves}
+use Rattle.maid_app.proofs.Refusals.{if_err_then, refused_here, text_refused, told_gives}
 use Rattle.maid_app.proofs.TellApart.{told_apart}
 use Rattle.maid_app.proofs.forms.check.examine.Goals as goal
 
@@ -28,8 +27,8 @@ returns-in_err-keep_bound-clause-err c =
     let bytes = c.args.bytes.now in
     let d = c.in_ok-diagram.diagram in
     let names = c.in_ok-diagram.names in
-    if_err_then c.from_residual-in_err-keep_bound.result (TellsOf (Examines d names)) (TellsOf (comes_of examining name bytes))
-    (λ refusal. examines_here d names name bytes refusal c.in_ok-diagram.ensures.ok)
+    if_err_then c.from_residual-in_err-keep_bound.result (TellsFor examining d names) (TellsOf (comes_of examining name bytes))
+    (λ refusal. refused_here d names examining name bytes refusal c.in_ok-diagram.ensures.ok)
     (search rules)
 
 -- or has too many leaves
@@ -39,10 +38,9 @@ returns-then-leaves-gt-MOST_LEAVES-clause-err c =
     let bytes = c.args.bytes.now in
     let d = c.in_ok-diagram.diagram in
     let names = c.in_ok-diagram.names in
-    told_gives (refusals_of (comes_of examining name bytes)) TooLarge c.too_many_leaves.result c.told.result
-    (if_ok_then c.too_many_leaves.result (λ t. t.items ≡ leaves_line c.leaves-leaves.result) (λ t. comes_of examining name bytes (Err (refused TooLarge t.items)))
-    (λ t e. leaves_examined d names t.items name bytes c.in_ok-diagram.ensures.ok c.in_ok-keep_bound.ensures.ok (record { many = many_leaves _ c.leaves-leaves.result c.leaves-leaves.ensures c.if-leaves-gt-MOST_LEAVES.true; says = e ∙ ap leaves_line c.leaves-leaves.ensures }))
-    c.too_many_leaves.ensures)
+    told_gives (refusals_of (comes_of examining name bytes)) TooLarge (leaves_line c.leaves-leaves.result) c.too_many_leaves.result c.told.result
+    (λ told e. leaves_examined d names told name bytes c.in_ok-diagram.ensures.ok c.in_ok-keep_bound.ensures.ok (record { many = many_leaves _ c.leaves-leaves.result c.leaves-leaves.ensures c.if-leaves-gt-MOST_LEAVES.true; says = e ∙ ap leaves_line c.leaves-leaves.ensures }))
+    c.too_many_leaves.ensures
     c.told.ensures
 
 -- or it can be checked

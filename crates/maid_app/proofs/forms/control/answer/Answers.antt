@@ -1,11 +1,10 @@
-use Rattle.std.proofs.Common.{rules, [], ◌∷◌, ◌∙◌, All, length, sym, ap, subst}
-use Rattle.maid_app.specs.Asking.{asking_stages}
+use Rattle.std.proofs.Common.{rules, refl, [], ◌∷◌, ◌∙◌, All, length, sym, ap, subst}
+use Rattle.maid_app.specs.Asking.{agent_stages}
 use Rattle.maid_app.specs.Control.{HasControl, control_nodes, control_text, weighing_control}
 use Rattle.maid_app.specs.Diagrams.{NamedDiagram}
 use Rattle.maid_app.specs.Found.{AreKnown}
-use Rattle.maid_app.specs.Reading.{TellsStages, TellsOf}
-use Rattle.maid_app.specs.Stages.{text_fault, unknown_agent}
-use Rattle.maid_app.specs.Tasks.{comes_of}
+use Rattle.maid_app.specs.Reading.{TellsFor, TellsFound}
+use Rattle.maid_app.specs.Stages.{unknown_agent}
 use Rattle.maid_app.proofs.Known.{control_known, place_listed}
 use Rattle.maid_app.proofs.Refusals.{if_err_then, stages_refuse}
 use Rattle.maid_app.proofs.Solving.{solved_given}
@@ -15,35 +14,35 @@ use Rattle.maid_app.proofs.forms.control.answer.Goals as goal
 pub returns-in_err-asked-clause-err : goal.returns-in_err-asked-clause-err
 returns-in_err-asked-clause-err c =
     let agent = c.args.agent.now in
-    let name = c.args.source.name.now in
-    let bytes = c.args.source.bytes.now in
-    if_err_then c.from_residual.result (TellsStages (asking_stages agent) name bytes) (TellsOf (comes_of (weighing_control agent) name bytes)) (stages_refuse (weighing_control agent) name bytes) (search rules)
+    let d = c.args.diagram.now in
+    let names = c.args.names.now in
+    let task = weighing_control agent in
+    if_err_then c.from_residual.result (TellsFound d names (agent_stages agent)) (TellsFor task d names) (λ refusal. stages_refuse d names task (agent_stages agent) refusal refl) (search rules)
 
 -- all that its lines name has a name
 pub control_text-requires : goal.control_text-requires
 control_text-requires c =
     let asked = c.in_ok-asked.asked in
-    let d = asked.diagram in
+    let d = c.args.diagram.now in
     let lines = c.in_ok-lines.lines.items in
     let known : All (λ told. AreKnown (length d.nodes) (control_nodes told)) lines = control_known d asked.solved.answers asked.agent c.in_ok-lines.ensures.lines.0 lines c.in_ok-lines.ensures.nodes c.in_ok-lines.ensures.lines.2 in
-    subst (λ n. All (λ told. AreKnown n (control_nodes told)) c.deref.result.now) (sym c.in_ok-asked.ensures.ok.fit.nodes)
+    subst (λ n. All (λ told. AreKnown n (control_nodes told)) c.deref.result.now) (sym c.requires.nodes)
     (subst (All (λ told. AreKnown (length d.nodes) (control_nodes told))) (sym c.deref.ensures.value) known)
 
--- the lines are those of the answer of the bytes' diagram
+-- the lines are those of the diagram's answer
 pub returns-clause-ok : goal.returns-clause-ok
 returns-clause-ok c =
     let agent = c.args.agent.now in
-    let name = c.args.source.name.now in
-    let bytes = c.args.source.bytes.now in
+    let d = c.args.diagram.now in
+    let names = c.args.names.now in
     let asked = c.in_ok-asked.asked in
     let made = c.in_ok-asked.ensures.ok in
-    let is = made.solved_as.is in
-    let x : NamedDiagram = record { d = asked.diagram; names = asked.names } in
-    let listed = place_listed asked.names.agents agent asked.agent made.is_agent in
-    solved_given (text_fault ∷ unknown_agent agent ∷ []) (HasControl agent) name bytes asked.diagram asked.names c.in_ok-control_text.field-0.items is ((x, is), ((x, is, listed), tt)) made.solved_as.solvable
+    let x : NamedDiagram = record { d = d; names = names } in
+    let listed = place_listed names.agents agent asked.agent made.is_agent in
+    solved_given d names (unknown_agent agent ∷ []) (HasControl agent) c.in_ok-control_text.field-0.items (λ name bytes is. ((x, is, listed), tt)) made.solvable
     (record {
       solved = asked.solved;
-      solution = made.solved_as.solution;
+      solution = made.solution;
       number = asked.agent;
       is_agent = made.is_agent;
       lines = c.in_ok-lines.lines.items;
@@ -52,5 +51,5 @@ returns-clause-ok c =
       is_trimmed = c.in_ok-lines.ensures.lines.1;
       found = c.in_ok-lines.ensures.lines.2;
       worths = c.in_ok-lines.ensures.worths;
-      is = c.in_ok-control_text.ensures ∙ ap (control_text c.as_bytes.result.now asked.names) c.deref.ensures.value ∙ ap (λ a. control_text a asked.names c.in_ok-lines.lines.items) c.as_bytes.ensures.value;
+      is = c.in_ok-control_text.ensures ∙ ap (control_text c.as_bytes.result.now names) c.deref.ensures.value ∙ ap (λ a. control_text a names c.in_ok-lines.lines.items) c.as_bytes.ensures.value;
     })

@@ -1,14 +1,13 @@
-use Rattle.std.proofs.Common.{◌≡◌, ◌∙◌, ◌<◌, ◌++◌, All, Some, codes, length, sym, subst, ap}
+use Rattle.std.proofs.Common.{◌∙◌, ◌<◌, ◌++◌, All, codes, length, sym, subst, ap}
 use Rattle.first_fault.specs.Answers.{IsFaultOrNoMemory}
 use Rattle.evidence.specs.Faults.{given_fault, given_pass}
 use Rattle.maid_model.specs.Reports.{line}
 use Rattle.maid_app.specs.Given.{evidence_stages}
 use Rattle.maid_app.specs.Lines.{bound_line, cycle_line, impossible_line, rules_line, too_large_line}
-use Rattle.maid_app.specs.Outcome.{refused}
 use Rattle.maid_app.specs.Reading.{found_by}
 use Rattle.maid_app.specs.declared.status.Status.TheVariants.{BelowDecision, Cycle, Impossible, TooLarge, WeightBound}
 use Rattle.maid_app.proofs.Conditions.{below_found, rules_found, cycle_given_found, bound_given_found, size_given_found, impossible_found, cycle_named, bound_named}
-use Rattle.maid_app.proofs.Refusals.{told_gives, if_ok_then}
+use Rattle.maid_app.proofs.Refusals.{told_gives}
 use Rattle.maid_app.proofs.forms.given.refusal.Goals as goal
 
 -- the decisions of the relevance cycle are nodes, which have names
@@ -36,10 +35,9 @@ returns-in-BelowDecision c =
     let state = c.args.state.now in
     let place = c.args.place in
     let found = subst (IsFaultOrNoMemory given_fault (given_pass d place.node place.state)) c.in-BelowDecision.is c.requires.fault in
-    told_gives (found_by d names (evidence_stages node state)) BelowDecision c.told.result c.told-in-BelowDecision.result
-    (if_ok_then c.told.result (λ t. t.items ≡ line (codes "below a decision: " ++ c.as_bytes.result.now)) (λ t. found_by d names (evidence_stages node state) (Some (refused BelowDecision t.items)))
-    (λ t e. below_found d names node state t.items place c.requires.place found (e ∙ ap (λ name. line (codes "below a decision: " ++ name)) c.as_bytes.ensures.value))
-    c.told.ensures)
+    told_gives (found_by d names (evidence_stages node state)) BelowDecision (line (codes "below a decision: " ++ c.as_bytes.result.now)) c.told.result c.told-in-BelowDecision.result
+    (λ told e. below_found d names node state told place c.requires.place found (e ∙ ap (λ name. line (codes "below a decision: " ++ name)) c.as_bytes.ensures.value))
+    c.told.ensures
     c.told-in-BelowDecision.ensures
 
 -- or the rules are too large
@@ -51,10 +49,9 @@ returns-in-RulesTooLarge c =
     let state = c.args.state.now in
     let place = c.args.place in
     let found = subst (IsFaultOrNoMemory given_fault (given_pass d place.node place.state)) c.in-RulesTooLarge.is c.requires.fault in
-    told_gives (found_by d names (evidence_stages node state)) TooLarge c.told-in-RulesTooLarge.result c.told-in-RulesTooLarge-2.result
-    (if_ok_then c.told-in-RulesTooLarge.result (λ t. t.items ≡ rules_line) (λ t. found_by d names (evidence_stages node state) (Some (refused TooLarge t.items)))
-    (λ t e. rules_found d names node state t.items place c.requires.place found (e))
-    c.told-in-RulesTooLarge.ensures)
+    told_gives (found_by d names (evidence_stages node state)) TooLarge rules_line c.told-in-RulesTooLarge.result c.told-in-RulesTooLarge-2.result
+    (λ told e. rules_found d names node state told place c.requires.place found e)
+    c.told-in-RulesTooLarge.ensures
     c.told-in-RulesTooLarge-2.ensures
 
 -- or the line names the relevance cycle
@@ -66,10 +63,9 @@ returns-in-Cycle c =
     let state = c.args.state.now in
     let place = c.args.place in
     let found = subst (IsFaultOrNoMemory given_fault (given_pass d place.node place.state)) c.in-Cycle.is c.requires.fault in
-    told_gives (found_by d names (evidence_stages node state)) Cycle c.list_line.result c.told-in-Cycle.result
-    (if_ok_then c.list_line.result (λ t. t.items ≡ cycle_line names c.deref.result.now) (λ t. found_by d names (evidence_stages node state) (Some (refused Cycle t.items)))
-    (λ t e. cycle_given_found d names node state t.items place c.requires.place c.in-Cycle.list.items found (e ∙ ap (cycle_line names) c.deref.ensures.value))
-    c.list_line.ensures)
+    told_gives (found_by d names (evidence_stages node state)) Cycle (cycle_line names c.deref.result.now) c.list_line.result c.told-in-Cycle.result
+    (λ told e. cycle_given_found d names node state told place c.requires.place c.in-Cycle.list.items found (e ∙ ap (cycle_line names) c.deref.ensures.value))
+    c.list_line.ensures
     c.told-in-Cycle.ensures
 
 -- or the place at which the weight bound is passed
@@ -81,10 +77,9 @@ returns-in-WeightBound c =
     let state = c.args.state.now in
     let place = c.args.place in
     let found = subst (IsFaultOrNoMemory given_fault (given_pass d place.node place.state)) c.in-WeightBound.is c.requires.fault in
-    told_gives (found_by d names (evidence_stages node state)) WeightBound c.weight_bound.result c.told-in-WeightBound.result
-    (if_ok_then c.weight_bound.result (λ t. t.items ≡ bound_line names c.in-WeightBound.node) (λ t. found_by d names (evidence_stages node state) (Some (refused WeightBound t.items)))
-    (λ t e. bound_given_found d names node state t.items place c.requires.place c.in-WeightBound.node found (e))
-    c.weight_bound.ensures)
+    told_gives (found_by d names (evidence_stages node state)) WeightBound (bound_line names c.in-WeightBound.node) c.weight_bound.result c.told-in-WeightBound.result
+    (λ told e. bound_given_found d names node state told place c.requires.place c.in-WeightBound.node found e)
+    c.weight_bound.ensures
     c.told-in-WeightBound.ensures
 
 -- or the cells and the work of too large a run
@@ -96,10 +91,9 @@ returns-in-TooLarge c =
     let state = c.args.state.now in
     let place = c.args.place in
     let found = subst (IsFaultOrNoMemory given_fault (given_pass d place.node place.state)) c.in-TooLarge.is c.requires.fault in
-    told_gives (found_by d names (evidence_stages node state)) TooLarge c.too_large.result c.told-in-TooLarge.result
-    (if_ok_then c.too_large.result (λ t. t.items ≡ too_large_line c.in-TooLarge.cells c.in-TooLarge.work) (λ t. found_by d names (evidence_stages node state) (Some (refused TooLarge t.items)))
-    (λ t e. size_given_found d names node state t.items place c.requires.place c.in-TooLarge.cells c.in-TooLarge.work found (e))
-    c.too_large.ensures)
+    told_gives (found_by d names (evidence_stages node state)) TooLarge (too_large_line c.in-TooLarge.cells c.in-TooLarge.work) c.too_large.result c.told-in-TooLarge.result
+    (λ told e. size_given_found d names node state told place c.requires.place c.in-TooLarge.cells c.in-TooLarge.work found e)
+    c.too_large.ensures
     c.told-in-TooLarge.ensures
 
 -- or the node never has the state
@@ -111,8 +105,7 @@ returns-in-Impossible c =
     let state = c.args.state.now in
     let place = c.args.place in
     let found = subst (IsFaultOrNoMemory given_fault (given_pass d place.node place.state)) c.in-Impossible.is c.requires.fault in
-    told_gives (found_by d names (evidence_stages node state)) Impossible c.impossible.result c.told-in-Impossible.result
-    (if_ok_then c.impossible.result (λ t. t.items ≡ impossible_line c.as_bytes-in-Impossible.result.now c.as_bytes-in-Impossible-2.result.now) (λ t. found_by d names (evidence_stages node state) (Some (refused Impossible t.items)))
-    (λ t e. impossible_found d names node state t.items place c.requires.place found (e ∙ ap (λ n. impossible_line n c.as_bytes-in-Impossible-2.result.now) c.as_bytes-in-Impossible.ensures.value ∙ ap (impossible_line node) c.as_bytes-in-Impossible-2.ensures.value))
-    c.impossible.ensures)
+    told_gives (found_by d names (evidence_stages node state)) Impossible (impossible_line c.as_bytes-in-Impossible.result.now c.as_bytes-in-Impossible-2.result.now) c.impossible.result c.told-in-Impossible.result
+    (λ told e. impossible_found d names node state told place c.requires.place found (e ∙ ap (λ n. impossible_line n c.as_bytes-in-Impossible-2.result.now) c.as_bytes-in-Impossible.ensures.value ∙ ap (impossible_line node) c.as_bytes-in-Impossible-2.ensures.value))
+    c.impossible.ensures
     c.told-in-Impossible.ensures

@@ -1,13 +1,12 @@
-use Rattle.std.proofs.Common.{◌≡◌, ◌-◌, Some, subst}
+use Rattle.std.proofs.Common.{◌-◌, subst}
 use Rattle.first_fault.specs.Answers.{IsFaultOrNoMemory}
 use Rattle.maid_model.proofs.Cells.{is_node}
 use Rattle.threshold.specs.Faults.{span_fault, span_pass}
 use Rattle.maid_app.specs.Lines.{bound_line}
-use Rattle.maid_app.specs.Outcome.{refused}
 use Rattle.maid_app.specs.Threshold.{moved_pass}
 use Rattle.maid_app.specs.declared.status.Status.TheVariants.{WeightBound}
 use Rattle.maid_app.proofs.Moving.{bound_named, bound_told}
-use Rattle.maid_app.proofs.Refusals.{told_gives, if_ok_then}
+use Rattle.maid_app.proofs.Refusals.{told_gives}
 use Rattle.maid_app.proofs.forms.moved.find_interval.Goals as goal
 
 -- the place at which the weight bound is passed is a node, which has a name
@@ -25,8 +24,7 @@ returns-in-Err-WeightBound-clause-err c =
     let names = c.args.names.now in
     let place = c.args.place in
     let found = subst (IsFaultOrNoMemory span_fault (span_pass d place.node place.state (c.args.row - 1))) c.in-Err-WeightBound.field-0-is c.in-Err-WeightBound.ensures.rows in
-    told_gives (moved_pass d names place c.args.row) WeightBound c.weight_bound.result c.told.result
-    (if_ok_then c.weight_bound.result (λ t. t.items ≡ bound_line names c.in-Err-WeightBound.node) (λ t. moved_pass d names place c.args.row (Some (refused WeightBound t.items)))
-    (λ t e. bound_told d names place c.args.row c.in-Err-WeightBound.node t.items found e)
-    c.weight_bound.ensures)
+    told_gives (moved_pass d names place c.args.row) WeightBound (bound_line names c.in-Err-WeightBound.node) c.weight_bound.result c.told.result
+    (λ told e. bound_told d names place c.args.row c.in-Err-WeightBound.node told found e)
+    c.weight_bound.ensures
     c.told.ensures

@@ -1,12 +1,11 @@
-use Rattle.std.proofs.Common.{◌≡◌, Some, subst}
+use Rattle.std.proofs.Common.{subst}
 use Rattle.first_fault.specs.Answers.{IsFaultOrNoMemory}
 use Rattle.pure_search.specs.Faults.{pure_fault, pure_pass}
 use Rattle.maid_app.specs.Lines.{bound_line, no_equilibrium_line, profiles_line}
-use Rattle.maid_app.specs.Outcome.{refused}
 use Rattle.maid_app.specs.Pure.{search_stages}
 use Rattle.maid_app.specs.Reading.{found_by}
 use Rattle.maid_app.specs.declared.status.Status.TheVariants.{NoPure, TooLarge, WeightBound}
-use Rattle.maid_app.proofs.Refusals.{told_gives, if_ok_then}
+use Rattle.maid_app.proofs.Refusals.{told_gives}
 use Rattle.maid_app.proofs.SolveRefusals.{place_named}
 use Rattle.maid_app.proofs.Searches.{search_passed, search_bound, search_size, search_none}
 use Rattle.maid_app.proofs.forms.pure.refusal.Goals as goal
@@ -24,10 +23,9 @@ returns-in-WeightBound c =
     let d = c.args.diagram.now in
     let names = c.args.names.now in
     let found = subst (IsFaultOrNoMemory pure_fault (pure_pass d)) c.in-WeightBound.is c.requires.fault in
-    told_gives (found_by d names search_stages) WeightBound c.weight_bound.result c.told.result
-    (if_ok_then c.weight_bound.result (λ t. t.items ≡ bound_line names c.in-WeightBound.node) (λ t. found_by d names search_stages (Some (refused WeightBound t.items)))
-    (λ t e. search_bound d names t.items c.in-WeightBound.node found e)
-    c.weight_bound.ensures)
+    told_gives (found_by d names search_stages) WeightBound (bound_line names c.in-WeightBound.node) c.weight_bound.result c.told.result
+    (λ told e. search_bound d names told c.in-WeightBound.node found e)
+    c.weight_bound.ensures
     c.told.ensures
 
 -- or the counts of profiles and worlds
@@ -36,10 +34,9 @@ returns-in-TooLarge c =
     let d = c.args.diagram.now in
     let names = c.args.names.now in
     let found = subst (IsFaultOrNoMemory pure_fault (pure_pass d)) c.in-TooLarge.is c.requires.fault in
-    told_gives (found_by d names search_stages) TooLarge c.too_many_profiles.result c.told-in-TooLarge.result
-    (if_ok_then c.too_many_profiles.result (λ t. t.items ≡ profiles_line c.in-TooLarge.profiles c.in-TooLarge.leaves) (λ t. found_by d names search_stages (Some (refused TooLarge t.items)))
-    (λ t e. search_size d names t.items c.in-TooLarge.profiles c.in-TooLarge.leaves found e)
-    c.too_many_profiles.ensures)
+    told_gives (found_by d names search_stages) TooLarge (profiles_line c.in-TooLarge.profiles c.in-TooLarge.leaves) c.too_many_profiles.result c.told-in-TooLarge.result
+    (λ told e. search_size d names told c.in-TooLarge.profiles c.in-TooLarge.leaves found e)
+    c.too_many_profiles.ensures
     c.told-in-TooLarge.ensures
 
 -- or how many profiles are no equilibrium
@@ -48,8 +45,7 @@ returns-in-NoPure c =
     let d = c.args.diagram.now in
     let names = c.args.names.now in
     let found = subst (IsFaultOrNoMemory pure_fault (pure_pass d)) c.in-NoPure.is c.requires.fault in
-    told_gives (found_by d names search_stages) NoPure c.no_equilibrium.result c.told-in-NoPure.result
-    (if_ok_then c.no_equilibrium.result (λ t. t.items ≡ no_equilibrium_line c.in-NoPure.profiles) (λ t. found_by d names search_stages (Some (refused NoPure t.items)))
-    (λ t e. search_none d names t.items c.in-NoPure.profiles found e)
-    c.no_equilibrium.ensures)
+    told_gives (found_by d names search_stages) NoPure (no_equilibrium_line c.in-NoPure.profiles) c.no_equilibrium.result c.told-in-NoPure.result
+    (λ told e. search_none d names told c.in-NoPure.profiles found e)
+    c.no_equilibrium.ensures
     c.told-in-NoPure.ensures

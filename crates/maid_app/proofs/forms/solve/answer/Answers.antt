@@ -1,22 +1,19 @@
-use Rattle.std.proofs.Common.{rules, [], ◌∷◌}
-use Rattle.maid_app.specs.Reading.{TellsStages, TellsOf}
-use Rattle.maid_app.specs.Solve.{HasReport, solving, solving_stages}
-use Rattle.maid_app.specs.Stages.{text_fault}
-use Rattle.maid_app.specs.Tasks.{comes_of}
+use Rattle.std.proofs.Common.{rules, refl, []}
+use Rattle.maid_app.specs.Reading.{TellsFor, TellsFound}
+use Rattle.maid_app.specs.Solve.{HasReport, solver_stages, solving}
 use Rattle.maid_app.proofs.Refusals.{if_err_then, stages_refuse}
 use Rattle.maid_app.proofs.Solving.{solved_given}
 use Rattle.maid_app.proofs.forms.solve.answer.Goals as goal
 
--- the report is that of the answer of the bytes' diagram
+-- the report is that of the diagram's answer
 pub returns-clause-ok : goal.returns-clause-ok
 returns-clause-ok c =
-    let made = c.in_ok-diagram.ensures.ok in
-    solved_given (text_fault ∷ []) HasReport c.args.source.name.now c.args.source.bytes.now c.in_ok-diagram.diagram c.in_ok-diagram.names c.in_ok-print_report.field-0.items made.is ((record { d = c.in_ok-diagram.diagram; names = c.in_ok-diagram.names }, made.is), tt) made.solvable
-    (record { solved = c.in_ok-diagram.answer; solution = made.solution; is_report = c.in_ok-print_report.ensures })
+    solved_given c.args.diagram.now c.args.names.now [] HasReport c.in_ok-print_report.field-0.items (λ name bytes is. tt) c.in_ok-solved.ensures.solvable
+    (record { solved = c.in_ok-solved.solved; solution = c.in_ok-solved.ensures.ok; is_report = c.in_ok-print_report.ensures })
 
--- what the stages find refuses it
-pub returns-in_err-diagram-clause-err : goal.returns-in_err-diagram-clause-err
-returns-in_err-diagram-clause-err c =
-    if_err_then c.from_residual.result (TellsStages solving_stages c.args.source.name.now c.args.source.bytes.now) (TellsOf (comes_of solving c.args.source.name.now c.args.source.bytes.now))
-    (stages_refuse solving c.args.source.name.now c.args.source.bytes.now)
-    (search rules)
+-- what the solver's stages find refuses it
+pub returns-in_err-solved-clause-err : goal.returns-in_err-solved-clause-err
+returns-in_err-solved-clause-err c =
+    let d = c.args.diagram.now in
+    let names = c.args.names.now in
+    if_err_then c.from_residual.result (TellsFound d names solver_stages) (TellsFor solving d names) (λ refusal. stages_refuse d names solving solver_stages refusal refl) (search rules)

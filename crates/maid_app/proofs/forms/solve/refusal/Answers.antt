@@ -1,13 +1,12 @@
-use Rattle.std.proofs.Common.{◌≡◌, ◌∙◌, ◌<◌, ℕ, All, Some, length, sym, subst, ap}
+use Rattle.std.proofs.Common.{◌∙◌, ◌<◌, ℕ, All, length, sym, subst, ap}
 use Rattle.first_fault.specs.Answers.{IsFaultOrNoMemory}
 use Rattle.rule_solver.specs.Faults.{solve_fault, solve_pass}
 use Rattle.maid_app.specs.Lines.{bound_line, cycle_line, too_large_line}
-use Rattle.maid_app.specs.Outcome.{refused}
 use Rattle.maid_app.specs.Reading.{found_by}
 use Rattle.maid_app.specs.Solve.{solver_stages}
 use Rattle.maid_app.specs.declared.status.Status.TheVariants.{Cycle, WeightBound, TooLarge}
 use Rattle.maid_app.proofs.Nodes.{cycle_within}
-use Rattle.maid_app.proofs.Refusals.{told_gives, if_ok_then}
+use Rattle.maid_app.proofs.Refusals.{told_gives}
 use Rattle.maid_app.proofs.SolveRefusals.{bound_of, bound_told, cycle_of, place_known, size_of}
 use Rattle.maid_app.proofs.Solving.{bound_found, cycle_found, size_found}
 use Rattle.maid_app.proofs.forms.solve.refusal.Goals as goal
@@ -25,10 +24,9 @@ returns-in-Cycle c =
     let d = c.args.diagram.now in
     let names = c.args.names.now in
     let found = cycle_of d c.in-Cycle.list.items (subst (IsFaultOrNoMemory solve_fault (solve_pass d)) c.in-Cycle.is c.requires.fault) in
-    told_gives (found_by d names solver_stages) Cycle c.list_line.result c.told.result
-    (if_ok_then c.list_line.result (λ t. t.items ≡ cycle_line names c.deref.result.now) (λ t. found_by d names solver_stages (Some (refused Cycle t.items)))
-    (λ t e. cycle_found d names t.items c.in-Cycle.list.items found.0 found.1 (e ∙ ap (cycle_line names) c.deref.ensures.value))
-    c.list_line.ensures)
+    told_gives (found_by d names solver_stages) Cycle (cycle_line names c.deref.result.now) c.list_line.result c.told.result
+    (λ told e. cycle_found d names told c.in-Cycle.list.items found.0 found.1 (e ∙ ap (cycle_line names) c.deref.ensures.value))
+    c.list_line.ensures
     c.told.ensures
 
 -- the place at which the weight bound is passed is a node, which has a name
@@ -43,10 +41,9 @@ returns-in-WeightBound c =
     let d = c.args.diagram.now in
     let names = c.args.names.now in
     let found = bound_of d c.in-WeightBound.node (subst (IsFaultOrNoMemory solve_fault (solve_pass d)) c.in-WeightBound.is c.requires.fault) in
-    told_gives (found_by d names solver_stages) WeightBound c.weight_bound.result c.told-in-WeightBound.result
-    (if_ok_then c.weight_bound.result (λ t. t.items ≡ bound_line names c.in-WeightBound.node) (λ t. found_by d names solver_stages (Some (refused WeightBound t.items)))
-    (λ t e. bound_found d names t.items found.0 (bound_told d names c.in-WeightBound.node t.items found.1 e))
-    c.weight_bound.ensures)
+    told_gives (found_by d names solver_stages) WeightBound (bound_line names c.in-WeightBound.node) c.weight_bound.result c.told-in-WeightBound.result
+    (λ told e. bound_found d names told found.0 (bound_told d names c.in-WeightBound.node told found.1 e))
+    c.weight_bound.ensures
     c.told-in-WeightBound.ensures
 
 -- or it tells the cells and the work of too large a run
@@ -55,8 +52,7 @@ returns-in-TooLarge c =
     let d = c.args.diagram.now in
     let names = c.args.names.now in
     let found = size_of d c.in-TooLarge.cells c.in-TooLarge.work (subst (IsFaultOrNoMemory solve_fault (solve_pass d)) c.in-TooLarge.is c.requires.fault) in
-    told_gives (found_by d names solver_stages) TooLarge c.too_large.result c.told-in-TooLarge.result
-    (if_ok_then c.too_large.result (λ t. t.items ≡ too_large_line c.in-TooLarge.cells c.in-TooLarge.work) (λ t. found_by d names solver_stages (Some (refused TooLarge t.items)))
-    (λ t e. size_found d names t.items c.in-TooLarge.cells c.in-TooLarge.work found.0 found.1 found.2 e)
-    c.too_large.ensures)
+    told_gives (found_by d names solver_stages) TooLarge (too_large_line c.in-TooLarge.cells c.in-TooLarge.work) c.too_large.result c.told-in-TooLarge.result
+    (λ told e. size_found d names told c.in-TooLarge.cells c.in-TooLarge.work found.0 found.1 found.2 e)
+    c.too_large.ensures
     c.told-in-TooLarge.ensures
