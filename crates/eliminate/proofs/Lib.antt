@@ -11,3 +11,4 @@ pub mod Going
 pub mod Whole
 pub mod Scoped
 pub mod Within
+pub mod Bounds

@@ -1,7 +1,7 @@
 -- One level of a copy: the states of the first step one after another, each with the copy over the steps below.
-use Rattle.std.proofs.Common.{◌≡◌, ◌∙◌, ℕ, zero, suc, ◌+◌, ◌-◌, ◌*◌, ◌^◌, ◌<◌, ◌≤◌, List, [], ◌∷◌, ◌++◌, take, drop, length, get_or, refl, sym, ap, subst, arith, All, append_assoc, inl, inr}
+use Rattle.std.proofs.Common.{◌≡◌, ◌∙◌, ℕ, zero, suc, ◌+◌, ◌-◌, ◌*◌, ◌^◌, ◌<◌, ◌≤◌, List, [], ◌∷◌, ◌++◌, take, drop, set, length, get_or, refl, sym, ap, subst, arith, All, append_assoc, inl, inr}
 use Rattle.std.proofs.Math.Nat.{mul-le-mul_right}
-use Rattle.std.proofs.lemmas.List.{drop_more, length-append, get_or_append_left, get_or-append_right}
+use Rattle.std.proofs.lemmas.List.{drop_more, drop_all, take_more_set, length-append, get_or_append_left, get_or-append_right}
 use Rattle.std.proofs.lemmas.Bool.{cases_lt}
 use Rattle.finite_sums.specs.Sums.{World, InRange, with_state}
 use Rattle.maid_model.specs.Nodes.{rows_under}
@@ -48,12 +48,33 @@ one_more n f = ap (λ k. one_by_one k f) (let e : n + 1 ≡ suc n = omega arith 
 pub copied_next : {C : Type 0} (n : ℕ) (f : ℕ → List C) (start before after : List C) → before ≡ start ++ one_by_one n f → after ≡ before ++ f n → after ≡ start ++ one_by_one (n + 1) f
 copied_next n f start before after e g = g ∙ ap (λ l. l ++ f n) e ∙ append_assoc start (one_by_one n f) (f n) ∙ ap (λ l. start ++ l) (sym (one_more n f))
 
+-- a copy with one state more, and after the last
+pub copied_turn : {C : Type 0} (read : ℕ → List C) (from stride s here : ℕ) (start before after : List C) → here ≡ from + s * stride → before ≡ start ++ one_by_one s (λ i. read (from + i * stride)) → after ≡ before ++ read here → after ≡ start ++ one_by_one (s + 1) (λ i. read (from + i * stride))
+copied_turn read from stride s here start before after h e g = copied_next s (λ i. read (from + i * stride)) start before after e (g ∙ ap (λ k. before ++ read k) h)
+
+pub copied_all : {C : Type 0} (f : ℕ → List C) (n s : ℕ) (start done : List C) → s ≡ n → done ≡ start ++ one_by_one s f → done ≡ start ++ one_by_one n f
+copied_all f n s start done e g = g ∙ ap (λ k. start ++ one_by_one k f) e
+
+-- a cell was written behind those copied so far
+pub copied_cell : {C : Type 0} (out : List C) (at : ℕ) (x y : C) → at < length out → x ≡ y → take (at + 1) (set out at x) ≡ take at out ++ y ∷ []
+copied_cell out at x y l e = take_more_set out at x l ∙ ap (λ z. take at out ++ z ∷ []) e
+
 -- a list that is not empty is its first item and the rest
 abbrev pub first_of : List Step → Step
 first_of steps = get_or steps 0 (record { states = 0; stride = 0 })
 
 pub split : (steps : List Step) → 0 < length steps → steps ≡ first_of steps ∷ drop 1 steps
 split steps h = drop_more steps 0 (record { states = 0; stride = 0 }) h
+
+-- the same of one item, and of two
+pub one_step : (steps : List Step) → length steps ≡ 1 → steps ≡ first_of steps ∷ []
+one_step steps h = split steps (omega arith) ∙ ap (λ l. first_of steps ∷ l) (drop_all 1 steps (omega arith))
+
+abbrev pub second_of : List Step → Step
+second_of steps = get_or steps 1 (record { states = 0; stride = 0 })
+
+pub two_steps : (steps : List Step) → length steps ≡ 2 → steps ≡ first_of steps ∷ (second_of steps ∷ [])
+two_steps steps h = split steps (omega arith) ∙ ap (λ l. first_of steps ∷ l) (drop_more steps 1 (record { states = 0; stride = 0 }) (omega arith) ∙ ap (λ l. second_of steps ∷ l) (drop_all 2 steps (omega arith)))
 
 pub take_behind : {X : Type 0} (xs ys : List X) (m : ℕ) → take (length xs + m) (xs ++ ys) ≡ xs ++ take m ys
 take_behind [] ys m = ap (λ k. take k ys) (let e : 0 + m ≡ m = omega arith in e)

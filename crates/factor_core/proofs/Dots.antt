@@ -7,6 +7,7 @@ use Rattle.cell_rings.specs.Rings.{Ring, IsRing, IsSize, mass_ring}
 use Rattle.cell_rings.specs.Sums.{ring_sum, cell_at, product_from, product_at, sizes_of, ProductFits, AddsCells}
 use Rattle.cell_rings.specs.RingLaws.{mass_is_ring}
 use Rattle.cell_rings.proofs.Adding.{nat_sum_le, size_at, size_sum, size_product, fits_less}
+use Rattle.cell_rings.proofs.Dots.{term_room}
 use Rattle.cell_rings.proofs.Runs.{chosen}
 use Rattle.factor_core.specs.Walks.{shifted, further, total, IsMet, CanWalk, IsDot}
 use Rattle.factor_core.specs.declared.walks.Axis.{Axis}
@@ -158,3 +159,11 @@ room_of_two {C} {r} laws sizes cells n k p q h =
     ap (λ x. k * x * r.size (cell_at r cells (q + i))) (sym (size_at laws sizes cells (p + i)))
     ∙ ap (λ x. k * cell_at mass_ring (sizes_of r cells) (p + i) * x) (sym (size_at laws sizes cells (q + i)))) in
     omega (arith, same, h)
+
+-- room for one product more of a factor and cells further along
+pub along_fits : {C : Type 0} {r : Ring C} → IsRing r → IsSize r r.size → (cells : List C) (places : List ℕ) (factor : C) (n : ℕ) → ring_sum mass_ring n (λ s. product_from mass_ring (sizes_of r cells) (r.size factor) (further s places)) ≤ r.most → (s : ℕ) (sum product : C) → s < n → sum ≡ ring_sum r s (λ s. product_from r cells factor (further s places)) → product ≡ product_from r cells factor (further s places) → r.size sum + r.size product ≤ r.most
+along_fits {C} {r} laws sizes cells places factor n room s sum product h e is =
+    let f = λ (s : ℕ). product_from r cells factor (further s places) in
+    let most = λ (s : ℕ). product_from mass_ring (sizes_of r cells) (r.size factor) (further s places) in
+    let size = λ (s : ℕ). size_product laws sizes cells (further s places) factor (r.size factor) (omega arith) in
+    omega (arith, term_room laws sizes n f most size room s h, size s, ap r.size e, ap r.size is)

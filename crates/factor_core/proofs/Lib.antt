@@ -1,6 +1,9 @@
 pub mod Loads
 pub mod Shifts
 pub mod Walking
+pub mod Ends
+pub mod ProductSteps
+pub mod FewAxes
 pub mod RunLemmas
 pub mod Turned
 pub mod MovedRuns
@@ -27,3 +30,4 @@ pub mod ListTables
 pub mod FirstTables
 pub mod Straight
 pub mod StrideRows
+pub mod Spaces

@@ -35,6 +35,10 @@ module _ {C : Type 0} {r : Ring C} (laws : IsRing r) (sizes : IsSize r r.size) (
       ∙ ap (λ k. run_sum r a.states at (λ i. r.times (cell_at r cells (get_or places 1 0)) (cell_at r cells (k + i))) p) is.begins
       ∙ sym (turned_total a ds places turned r laws cells at p)
 
+  pub moved_adds : (turned : Bool) → MovesAlong turned a ds (length places) → (factor : C) (from : ℕ) → IsRunAt turned r cells places factor from → (new : List C) → AddsCells r (run_sum r a.states at (λ i. r.times factor (cell_at r cells (from + i)))) out new → AddsCells r (total r cells (a ∷ []) ds places at) out new
+  moved_adds turned moved factor from is new adds =
+      record { each = λ p. adds.each p ∙ ap (r.plus (cell_at r out p)) (moved_total turned moved factor from is p) }
+
   -- and the sizes of its parts are within the load
   pub moved_load : (turned : Bool) → MovesAlong turned a ds (length places) → CanWalk r cells (a ∷ []) ds places out at → (factor : C) (from : ℕ) → IsRunAt turned r cells places factor from → (p : ℕ) → run_sum mass_ring a.states at (λ i. r.size factor * r.size (cell_at r cells (from + i))) p ≤ load r cells (a ∷ []) ds places at p
   moved_load false run can factor from is p =

@@ -42,8 +42,21 @@ module _ {C : Type 0} {r : Ring C} (laws : IsRing r) (sizes : IsSize r r.size) (
       let room : ring_sum mass_ring a.states most ≤ r.most = omega (arith, sizes_room) in
       omega (arith, term_room laws sizes a.states term most term_size room s h, ap r.size e, le)
 
+  -- the same where the places are those of a state
+  pub sum_room_at : (s : ℕ) (here : List ℕ) (sum product : C) → s < a.states → here ≡ shifted s ds places → sum ≡ ring_sum r s term → r.size product ≤ product_at mass_ring (sizes_of r cells) here → r.size sum + r.size product ≤ r.most
+  sum_room_at s here sum product h there e le =
+      sum_room s sum product h e (subst (λ ps. r.size product ≤ product_at mass_ring (sizes_of r cells) ps) there le)
+
+  -- all places are in range at each state
+  pub met_at : (s : ℕ) (here : List ℕ) → s < a.states → here ≡ shifted s ds places → IsMet r cells (length out) here (at + s * a.out)
+  met_at s here h e = subst (λ ps. IsMet r cells (length out) ps (at + s * a.out)) (sym e) (can.met s h)
+
   pub sum_more : (s : ℕ) (sum product new : C) → sum ≡ ring_sum r s term → product ≡ term s → new ≡ r.plus sum product → new ≡ ring_sum r (s + 1) term
   sum_more s sum product new e is plus = plus ∙ ap (λ x. r.plus x product) e ∙ ap (r.plus (ring_sum r s term)) is ∙ sym (sum_next r s term)
+
+  pub sum_more_at : (s : ℕ) (here : List ℕ) (sum product new : C) → here ≡ shifted s ds places → sum ≡ ring_sum r s term → product ≡ product_at r cells here → new ≡ r.plus sum product → new ≡ ring_sum r (s + 1) term
+  sum_more_at s here sum product new there e is plus =
+      sum_more s sum product new e (is ∙ ap (product_at r cells) there) plus
 
   -- room for the sum
   pub sum_fits : (sum : C) → sum ≡ ring_sum r a.states term → r.size (cell_at r out at) + r.size sum ≤ r.most

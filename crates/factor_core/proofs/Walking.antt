@@ -33,6 +33,10 @@ module _ {C : Type 0} {r : Ring C} (laws : IsRing r) (sizes : IsSize r r.size) (
   pub strides_enough : length places ≤ length strides
   strides_enough = omega (arith, can.count)
 
+  -- at each state there is a stride for each place
+  pub still_enough : (s : ℕ) (here : List ℕ) → here ≡ shifted s strides places → length here ≤ length strides
+  still_enough s here e = omega (arith, strides_enough, ap length e, length-shifted s strides places)
+
   pub first_axis : IsAxis a
   first_axis = can.are_axes 0 a (omega arith)
 

@@ -1,4 +1,4 @@
-use Rattle.std.proofs.Common.{rules, ◌≡◌, ◌*◌, ◌≤◌, length, take, sym, ap, ◌∙◌, arith}
+use Rattle.std.proofs.Common.{ℕ, List, ◌≡◌, ◌+◌, ◌*◌, ◌<◌, length, take, sym, ap, ◌∙◌, arith}
 use Rattle.std.proofs.lemmas.List.{length-take-le}
 use Rattle.node_sets.specs.Sets.{holds}
 use Rattle.factor_core.specs.Scopes.{united}
@@ -7,11 +7,70 @@ use Rattle.factor_core.proofs.ProductWalk.{begins_with, multiplies_with}
 use Rattle.factor_core.proofs.StrideRows.{listed_cong}
 use Rattle.factor_core.proofs.products.multiply_in.Goals as goal
 
+-- so many nodes are kept
+count_kept : (k : ℕ) (order kept : List ℕ) → k < length order → kept ≡ take k order → length kept ≡ k
+count_kept k order kept l e = ap length e ∙ length-take-le k order (omega arith)
+
+pub list_nodes-n-requires-clause-few : goal.list_nodes-n-requires-clause-few
+list_nodes-n-requires-clause-few g c = c.requires.can.are_counts.few
+
+pub list_nodes-n-requires-clause-room : goal.list_nodes-n-requires-clause-room
+list_nodes-n-requires-clause-room g c = c.requires.order
+
+pub before-order-requires : goal.before-order-requires
+before-order-requires g c = omega (arith, c.list_nodes-n.ensures.within, c.list_nodes-n.auto.order)
+
+pub set_axes-requires-clause-counts : goal.set_axes-requires-clause-counts
+set_axes-requires-clause-counts g c = c.requires.can.are_counts
+
+pub set_axes-requires-clause-kept : goal.set_axes-requires-clause-kept
+set_axes-requires-clause-kept g c = c.before-order.ensures ∙ c.list_nodes-n.ensures.list
+
+pub set_axes-requires-clause-room : goal.set_axes-requires-clause-room
+set_axes-requires-clause-room g c = omega (arith, ap length (c.before-order.ensures ∙ c.list_nodes-n.ensures.list), c.requires.axes)
+
+pub set_axes-requires-clause-fits : goal.set_axes-requires-clause-fits
+set_axes-requires-clause-fits g c = omega (arith, c.requires.can.size, c.requires.can.short_out)
+
+pub set_strides-requires-clause-counts : goal.set_strides-requires-clause-counts
+set_strides-requires-clause-counts g c = c.requires.can.are_counts
+
 pub set_strides-requires-clause-kept : goal.set_strides-requires-clause-kept
 set_strides-requires-clause-kept g c =
     let n = length c.args.counts.now in
     c.before-order.ensures ∙ c.list_nodes-n.ensures.list
     ∙ listed_cong (holds c.args.scope.now) (united c.args.slots.now) n n 0 (omega arith) c.requires.can.is_union.within
+
+pub set_strides-requires-clause-room : goal.set_strides-requires-clause-room
+set_strides-requires-clause-room g c =
+    let rows = ap (λ l. (length l + 1) * length c.args.slots.now) (c.before-order.ensures ∙ c.list_nodes-n.ensures.list) in
+    omega (arith, rows, c.requires.strides)
+
+pub set_strides-requires-clause-sizes : goal.set_strides-requires-clause-sizes
+set_strides-requires-clause-sizes g c = c.requires.places
+
+pub set_strides-requires-clause-fits : goal.set_strides-requires-clause-fits
+set_strides-requires-clause-fits g c = c.requires.can.small
+
+pub set_places-requires : goal.set_places-requires
+set_places-requires g c = omega (arith, c.requires.places, c.set_strides.auto.sizes)
+
+pub before-axes-requires : goal.before-axes-requires
+before-axes-requires g c =
+    let many = count_kept c.list_nodes-n.result c.list_nodes-n.new.order c.before-order.result.now (omega (arith, c.list_nodes-n.ensures.within, c.list_nodes-n.auto.order)) c.before-order.ensures in
+    omega (arith, many, ap length (c.before-order.ensures ∙ c.list_nodes-n.ensures.list), c.requires.axes, c.set_axes.auto.axes)
+
+pub before-strides-requires : goal.before-strides-requires
+before-strides-requires g c =
+    let many = count_kept c.list_nodes-n.result c.list_nodes-n.new.order c.before-order.result.now (omega (arith, c.list_nodes-n.ensures.within, c.list_nodes-n.auto.order)) c.before-order.ensures in
+    let rows = ap (λ l. (length l + 1) * length c.args.slots.now) (c.before-order.ensures ∙ c.list_nodes-n.ensures.list) in
+    omega (arith, ap (λ k. (k + 1) * length c.args.slots.now) many, rows, c.requires.strides, c.set_strides.auto.strides)
+
+pub slice_bounds-places-end : goal.slice_bounds-places-end
+slice_bounds-places-end g c = omega (arith, c.requires.places, c.set_strides.auto.sizes, c.set_places.auto.places)
+
+pub slice_bounds-places-end-2 : goal.slice_bounds-places-end-2
+slice_bounds-places-end-2 g c = sym (length-take-le (length c.args.slots.now) c.set_places.new.places (omega (arith, c.requires.places, c.set_strides.auto.sizes, c.set_places.auto.places)))
 
 pub walk_over-requires-clause-can : goal.walk_over-requires-clause-can
 walk_over-requires-clause-can g c =
@@ -19,7 +78,7 @@ walk_over-requires-clause-can g c =
     let counts = c.args.counts.now in
     let slots = c.args.slots.now in
     let is = c.before-order.ensures ∙ c.list_nodes-n.ensures.list in
-    let many : length c.before-order.result.now ≡ c.list_nodes-n.result = ap length c.before-order.ensures ∙ length-take-le c.list_nodes-n.result c.list_nodes-n.new.order (let fits : c.list_nodes-n.result ≤ length c.list_nodes-n.new.order = search rules in fits) in
+    let many : length c.before-order.result.now ≡ c.list_nodes-n.result = ap length c.before-order.ensures ∙ length-take-le c.list_nodes-n.result c.list_nodes-n.new.order (omega (arith, c.list_nodes-n.ensures.within, c.list_nodes-n.auto.order)) in
     let axes = c.before-axes.ensures ∙ ap (λ k. take k c.set_axes.new.axes) (sym many) ∙ c.set_axes.ensures ∙ ap (axes_of (states_in counts) (stride_over counts c.args.scope.now)) is in
     let strides = c.before-strides.ensures ∙ ap (λ k. take (k * length slots) c.set_strides.new.strides) (sym many) ∙ c.set_strides.ensures ∙ ap (stride_rows (stride_row counts slots)) is in
     begins_with m.laws m.sizes c.args.cells.now c.args.counts.now c.args.slots.now c.args.scope.now c.args.out.now c.requires.can _ _ _ axes strides c.set_places.ensures
@@ -30,7 +89,7 @@ returns g c =
     let counts = c.args.counts.now in
     let slots = c.args.slots.now in
     let is = c.before-order.ensures ∙ c.list_nodes-n.ensures.list in
-    let many : length c.before-order.result.now ≡ c.list_nodes-n.result = ap length c.before-order.ensures ∙ length-take-le c.list_nodes-n.result c.list_nodes-n.new.order (let fits : c.list_nodes-n.result ≤ length c.list_nodes-n.new.order = search rules in fits) in
+    let many : length c.before-order.result.now ≡ c.list_nodes-n.result = ap length c.before-order.ensures ∙ length-take-le c.list_nodes-n.result c.list_nodes-n.new.order (omega (arith, c.list_nodes-n.ensures.within, c.list_nodes-n.auto.order)) in
     let axes = c.before-axes.ensures ∙ ap (λ k. take k c.set_axes.new.axes) (sym many) ∙ c.set_axes.ensures ∙ ap (axes_of (states_in counts) (stride_over counts c.args.scope.now)) is in
     let strides = c.before-strides.ensures ∙ ap (λ k. take (k * length slots) c.set_strides.new.strides) (sym many) ∙ c.set_strides.ensures ∙ ap (stride_rows (stride_row counts slots)) is in
     multiplies_with m.laws m.sizes c.args.cells.now c.args.counts.now c.args.slots.now c.args.scope.now c.args.out.now c.requires.can _ _ _ axes strides c.set_places.ensures c.walk_over.new.out c.walk_over.ensures

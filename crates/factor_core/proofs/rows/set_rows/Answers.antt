@@ -71,3 +71,33 @@ loop-i-preserved c =
           (λ j a b. waits_beyond c.args.counts.now c.args.slots.now c.args.low c.args.high c.requires.range.1 kept c.requires.kept i u from to out wait j (omega (arith, next)) b)
           (λ j a l b. taken j (omega (arith, next)) l b),
     )
+
+pub bounds-kept-i : goal.bounds-kept-i
+bounds-kept-i c = omega (arith, c.loop-i.auto.i, c.loop-i-test.true)
+
+pub loop-i-smaller-then-node-high : goal.loop-i-smaller-then-node-high
+loop-i-smaller-then-node-high c = omega (arith, c.loop-i-test.true)
+
+pub loop-i-smaller : goal.loop-i-smaller
+loop-i-smaller c = omega (arith, c.loop-i-test.true)
+
+pub set_row-requires-clause-counts : goal.set_row-requires-clause-counts
+set_row-requires-clause-counts c = c.requires.counts
+
+pub set_row-requires-clause-node : goal.set_row-requires-clause-node
+set_row-requires-clause-node c = omega (arith, c.if-node-high.true, c.requires.range.1)
+
+pub set_row-requires-clause-sizes : goal.set_row-requires-clause-sizes
+set_row-requires-clause-sizes c = omega (arith, c.requires.sizes, c.loop-i.auto.sizes)
+
+pub set_row-requires-clause-fits : goal.set_row-requires-clause-fits
+set_row-requires-clause-fits c = c.requires.fits
+
+pub returns-clause-rows : goal.returns-clause-rows
+returns-clause-rows c = λ i l low high. c.loop-i.invariant.2 i (omega (arith, c.loop-i-test.false)) l low high
+
+pub returns-clause-others : goal.returns-clause-others
+returns-clause-others c = c.loop-i.invariant.3
+
+pub returns-clause-sizes : goal.returns-clause-sizes
+returns-clause-sizes c = c.loop-i.invariant.4 c.args.low (omega arith) c.requires.range.0 (λ j a b. absurd (omega (arith, a, c.loop-i-test.false))) (λ j a l from. from)

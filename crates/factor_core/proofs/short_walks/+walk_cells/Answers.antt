@@ -1,24 +1,100 @@
-use Rattle.std.proofs.Common.{rules, ◌≡◌, ◌<◌, length, ◌∷◌, arith, refl, sym, ap, subst, ◌∙◌}
-use Rattle.std.proofs.lemmas.List.{length-drop}
-use Rattle.cell_rings.specs.Sums.{AddsCells}
-use Rattle.factor_core.specs.Walks.{shifted, total}
-use Rattle.factor_core.proofs.Shifts.{shifted_none, length-shifted}
-use Rattle.factor_core.proofs.Walking.{first_of, three_axes, can_walk, split, one_row, strides_enough, place_fits, advance_fits, advanced, can_next, adds_first, adds_next, adds_all}
+use Rattle.std.proofs.Common.{rules, length, [], ◌∷◌, arith, refl, sym, ◌∙◌}
+use Rattle.factor_core.proofs.Shifts.{shifted_none}
+use Rattle.factor_core.proofs.Walking.{first_of, three_axes, can_walk, one_row, place_fits, advance_fits, advanced, can_next, adds_first, adds_next, adds_all, still_enough}
+use Rattle.factor_core.proofs.FewAxes.{no_axis, some_axis, first_and_rest, rest_shorter, one_axis, two_axes, second_of, third_of, can_as, adds_as, met_here, room_here, adds_here}
+use Rattle.factor_core.proofs.Ends.{same_end}
 use Rattle.factor_core.proofs.short_walks.+walk_cells.Goals as goal
+
+pub product-requires-clause-within : goal.product-requires-clause-within
+product-requires-clause-within g t c =
+    (met_here g.C.Cell.ring c.args.cells.now c.args.axes.now (no_axis c.args.axes.now c.if-is_empty.ensures) c.args.strides.now c.args.places.now c.args.at c.args.out.now c.requires).within
+
+pub product-requires-clause-fits : goal.product-requires-clause-fits
+product-requires-clause-fits g t c =
+    (met_here g.C.Cell.ring c.args.cells.now c.args.axes.now (no_axis c.args.axes.now c.if-is_empty.ensures) c.args.strides.now c.args.places.now c.args.at c.args.out.now c.requires).fits
+
+pub add_at-requires-clause-at : goal.add_at-requires-clause-at
+add_at-requires-clause-at g t c =
+    (met_here g.C.Cell.ring c.args.cells.now c.args.axes.now (no_axis c.args.axes.now c.if-is_empty.ensures) c.args.strides.now c.args.places.now c.args.at c.args.out.now c.requires).out
+
+pub add_at-requires-clause-fits : goal.add_at-requires-clause-fits
+add_at-requires-clause-fits g t c =
+    room_here g.C.Cell.ring c.args.cells.now c.args.axes.now (no_axis c.args.axes.now c.if-is_empty.ensures) c.args.strides.now c.args.places.now c.args.at c.args.out.now c.product.result c.requires c.product.ensures.size
+
+pub returns-then-is_empty : goal.returns-then-is_empty
+returns-then-is_empty g t c =
+    adds_here g.C.Cell.ring c.args.cells.now c.args.axes.now (no_axis c.args.axes.now c.if-is_empty.ensures) c.args.strides.now c.args.places.now c.args.at c.args.out.now c.add_at.new.out c.product.result c.product.ensures.product c.add_at.ensures
+
+pub bounds-axes-0 : goal.bounds-axes-0
+bounds-axes-0 g t c =
+    some_axis c.args.axes.now c.if-is_empty.ensures
+
+pub add_line-requires : goal.add_line-requires
+add_line-requires g t c =
+    (omega arith, can_as g.C.Cell.ring c.args.cells.now c.args.axes.now (first_of c.args.axes.now ∷ []) (one_axis c.args.axes.now c.if-axes-eq1.true) c.args.strides.now c.args.places.now c.args.at c.args.out.now c.requires)
+
+pub returns-then-axes-eq1 : goal.returns-then-axes-eq1
+returns-then-axes-eq1 g t c =
+    adds_as g.C.Cell.ring c.args.cells.now c.args.axes.now (first_of c.args.axes.now ∷ []) (one_axis c.args.axes.now c.if-axes-eq1.true) c.args.strides.now c.args.places.now c.args.at c.args.out.now c.add_line.new.out c.add_line.ensures
+
+pub bounds-axes-1 : goal.bounds-axes-1
+bounds-axes-1 g t c = omega (arith, c.if-axes-eq2.true)
+
+pub bounds-axes-1-then-is_pair : goal.bounds-axes-1-then-is_pair
+bounds-axes-1-then-is_pair g t c = omega (arith, c.if-axes-eq2.true)
+
+pub add_pairs-requires : goal.add_pairs-requires
+add_pairs-requires g t c = (
+  omega arith,
+  (c.if-is_pair.ensures.0 refl, can_as g.C.Cell.ring c.args.cells.now c.args.axes.now (first_of c.args.axes.now ∷ (second_of c.args.axes.now ∷ [])) (two_axes c.args.axes.now c.if-axes-eq2.true) c.args.strides.now c.args.places.now c.args.at c.args.out.now c.requires),
+)
+
+pub returns-then-is_pair : goal.returns-then-is_pair
+returns-then-is_pair g t c =
+    adds_as g.C.Cell.ring c.args.cells.now c.args.axes.now (first_of c.args.axes.now ∷ (second_of c.args.axes.now ∷ [])) (two_axes c.args.axes.now c.if-axes-eq2.true) c.args.strides.now c.args.places.now c.args.at c.args.out.now c.add_pairs.new.out c.add_pairs.ensures
+
+pub bounds-axes-1-then-axes-eq2-2 : goal.bounds-axes-1-then-axes-eq2-2
+bounds-axes-1-then-axes-eq2-2 g t c = omega (arith, c.if-axes-eq2-2.true)
+
+pub add_lines-requires : goal.add_lines-requires
+add_lines-requires g t c =
+    (omega arith, can_as g.C.Cell.ring c.args.cells.now c.args.axes.now (first_of c.args.axes.now ∷ (second_of c.args.axes.now ∷ [])) (two_axes c.args.axes.now c.if-axes-eq2-2.true) c.args.strides.now c.args.places.now c.args.at c.args.out.now c.requires)
+
+pub returns-then-axes-eq2-2 : goal.returns-then-axes-eq2-2
+returns-then-axes-eq2-2 g t c =
+    adds_as g.C.Cell.ring c.args.cells.now c.args.axes.now (first_of c.args.axes.now ∷ (second_of c.args.axes.now ∷ [])) (two_axes c.args.axes.now c.if-axes-eq2-2.true) c.args.strides.now c.args.places.now c.args.at c.args.out.now c.add_lines.new.out c.add_lines.ensures
+
+pub bounds-axes-2 : goal.bounds-axes-2
+bounds-axes-2 g t c = omega (arith, c.if-axes-eq3.true)
+
+pub bounds-axes-1-then-is_pair-2 : goal.bounds-axes-1-then-is_pair-2
+bounds-axes-1-then-is_pair-2 g t c = omega (arith, c.if-axes-eq3.true)
+
+pub bounds-axes-2-then-is_pair-2 : goal.bounds-axes-2-then-is_pair-2
+bounds-axes-2-then-is_pair-2 g t c = omega (arith, c.if-axes-eq3.true)
+
+pub add_planes-requires : goal.add_planes-requires
+add_planes-requires g t c = (
+  omega arith,
+  (c.if-is_pair-2.ensures.0 refl, can_as g.C.Cell.ring c.args.cells.now c.args.axes.now (first_of c.args.axes.now ∷ (second_of c.args.axes.now ∷ (third_of c.args.axes.now ∷ []))) (three_axes c.args.axes.now (record { states = 0; out = 0 }) c.if-axes-eq3.true) c.args.strides.now c.args.places.now c.args.at c.args.out.now c.requires),
+)
 
 pub returns-then-is_pair-2 : goal.returns-then-is_pair-2
 returns-then-is_pair-2 g t c =
-    let three : length c.args.axes.now ≡ 3 = omega (arith, c.if-axes-eq3.true) in
-    subst (λ l. AddsCells g.C.Cell.ring (total g.C.Cell.ring c.args.cells.now l c.args.strides.now c.args.places.now c.args.at) c.args.out.now c.add_planes.new.out) (sym (three_axes c.args.axes.now (record { states = 0; out = 0 }) three)) c.add_planes.ensures
+    adds_as g.C.Cell.ring c.args.cells.now c.args.axes.now (first_of c.args.axes.now ∷ (second_of c.args.axes.now ∷ (third_of c.args.axes.now ∷ []))) (three_axes c.args.axes.now (record { states = 0; out = 0 }) c.if-axes-eq3.true) c.args.strides.now c.args.places.now c.args.at c.args.out.now c.add_planes.new.out c.add_planes.ensures
+
+pub after-rest-requires : goal.after-rest-requires
+after-rest-requires g t c =
+    some_axis c.args.axes.now c.if-is_empty.ensures
 
 pub rows_below-below-requires : goal.rows_below-below-requires
 rows_below-below-requires g t c =
-    let some : 0 < length c.args.axes.now = search rules in
+    let some = some_axis c.args.axes.now c.if-is_empty.ensures in
     one_row (length c.args.axes.now) (length c.args.places.now) (length c.args.strides.now) some c.requires.count
 
 pub loop-init : goal.loop-init
 loop-init g t c =
-    let some : 0 < length c.args.axes.now = search rules in
+    let some = some_axis c.args.axes.now c.if-is_empty.ensures in
     let can = can_walk g.C.Cell.ring c.args.cells.now c.args.axes.now c.after-rest.result.now c.args.strides.now c.args.places.now c.args.out.now c.args.at some c.after-rest.ensures c.requires in
     record {
       here = sym (shifted_none c.args.strides.now c.args.places.now);
@@ -29,44 +105,45 @@ loop-init g t c =
 
 pub walk_cells-requires : goal.walk_cells-requires
 walk_cells-requires g t c κs within =
-    let some : 0 < length c.args.axes.now = search rules in
+    let some = some_axis c.args.axes.now c.if-is_empty.ensures in
     let can = can_walk g.C.Cell.ring c.args.cells.now c.args.axes.now c.after-rest.result.now c.args.strides.now c.args.places.now c.args.out.now c.args.at some c.after-rest.ensures c.requires in
-    let shorter : length c.after-rest.result.now < length c.args.axes.now = omega (arith, ap length c.after-rest.ensures, length-drop 1 c.args.axes.now) in (search rules, (search rules, (search rules, (search rules, can_next g.met.C.Cell.laws g.met.C.Cell.sizes c.args.cells.now (first_of c.args.axes.now) c.after-rest.result.now c.args.strides.now c.rows_below-below.result.now c.args.places.now c.args.out.now c.args.at c.rows_below-below.ensures can c.loop.counter c.loop.here c.loop.place c.loop.out c.loop-test.true c.loop.invariant.here c.loop.invariant.place c.loop.invariant.len c.loop.invariant.adds))))
+    let shorter = rest_shorter c.args.axes.now c.after-rest.result.now some c.after-rest.ensures in (omega arith, (search rules, (search rules, (omega arith, can_next g.met.C.Cell.laws g.met.C.Cell.sizes c.args.cells.now (first_of c.args.axes.now) c.after-rest.result.now c.args.strides.now c.rows_below-below.result.now c.args.places.now c.args.out.now c.args.at c.rows_below-below.ensures can c.loop.counter c.loop.here c.loop.place c.loop.out c.loop-test.true c.loop.invariant.here c.loop.invariant.place c.loop.invariant.len c.loop.invariant.adds))))
 
 pub overflow_add-place : goal.overflow_add-place
 overflow_add-place g t c =
-    let some : 0 < length c.args.axes.now = search rules in
+    let some = some_axis c.args.axes.now c.if-is_empty.ensures in
     let can = can_walk g.C.Cell.ring c.args.cells.now c.args.axes.now c.after-rest.result.now c.args.strides.now c.args.places.now c.args.out.now c.args.at some c.after-rest.ensures c.requires in
-    search (rules, place_fits g.met.C.Cell.laws g.met.C.Cell.sizes c.args.cells.now (first_of c.args.axes.now) c.after-rest.result.now c.args.strides.now c.rows_below-below.result.now c.args.places.now c.args.out.now c.args.at c.rows_below-below.ensures can c.loop.counter c.loop.place c.loop-test.true c.loop.invariant.place)
+    omega (arith, place_fits g.met.C.Cell.laws g.met.C.Cell.sizes c.args.cells.now (first_of c.args.axes.now) c.after-rest.result.now c.args.strides.now c.rows_below-below.result.now c.args.places.now c.args.out.now c.args.at c.rows_below-below.ensures can c.loop.counter c.loop.place c.loop-test.true c.loop.invariant.place)
 
 pub advance-requires-clause-strides : goal.advance-requires-clause-strides
 advance-requires-clause-strides g t c =
-    let some : 0 < length c.args.axes.now = search rules in
+    let some = some_axis c.args.axes.now c.if-is_empty.ensures in
     let can = can_walk g.C.Cell.ring c.args.cells.now c.args.axes.now c.after-rest.result.now c.args.strides.now c.args.places.now c.args.out.now c.args.at some c.after-rest.ensures c.requires in
-    omega (arith, strides_enough g.met.C.Cell.laws g.met.C.Cell.sizes c.args.cells.now (first_of c.args.axes.now) c.after-rest.result.now c.args.strides.now c.rows_below-below.result.now c.args.places.now c.args.out.now c.args.at c.rows_below-below.ensures can, ap length c.loop.invariant.here, length-shifted c.loop.counter c.args.strides.now c.args.places.now)
+    still_enough g.met.C.Cell.laws g.met.C.Cell.sizes c.args.cells.now (first_of c.args.axes.now) c.after-rest.result.now c.args.strides.now c.rows_below-below.result.now c.args.places.now c.args.out.now c.args.at c.rows_below-below.ensures can c.loop.counter c.loop.here c.loop.invariant.here
 
 pub advance-requires-clause-fits : goal.advance-requires-clause-fits
 advance-requires-clause-fits g t c =
-    let some : 0 < length c.args.axes.now = search rules in
+    let some = some_axis c.args.axes.now c.if-is_empty.ensures in
     let can = can_walk g.C.Cell.ring c.args.cells.now c.args.axes.now c.after-rest.result.now c.args.strides.now c.args.places.now c.args.out.now c.args.at some c.after-rest.ensures c.requires in
-    advance_fits g.met.C.Cell.laws g.met.C.Cell.sizes c.args.cells.now (first_of c.args.axes.now) c.after-rest.result.now c.args.strides.now c.rows_below-below.result.now c.args.places.now c.args.out.now c.args.at c.rows_below-below.ensures can c.loop.counter c.loop.here c.loop-test.true (c.loop.invariant.here)
+    advance_fits g.met.C.Cell.laws g.met.C.Cell.sizes c.args.cells.now (first_of c.args.axes.now) c.after-rest.result.now c.args.strides.now c.rows_below-below.result.now c.args.places.now c.args.out.now c.args.at c.rows_below-below.ensures can c.loop.counter c.loop.here c.loop-test.true c.loop.invariant.here
+
+pub loop-smaller : goal.loop-smaller
+loop-smaller g t c = omega (arith, c.loop-test.true)
 
 pub loop-preserved : goal.loop-preserved
 loop-preserved g t c =
-    let some : 0 < length c.args.axes.now = search rules in
+    let some = some_axis c.args.axes.now c.if-is_empty.ensures in
     let can = can_walk g.C.Cell.ring c.args.cells.now c.args.axes.now c.after-rest.result.now c.args.strides.now c.args.places.now c.args.out.now c.args.at some c.after-rest.ensures c.requires in
     record {
-      here = advanced g.met.C.Cell.laws g.met.C.Cell.sizes c.args.cells.now (first_of c.args.axes.now) c.after-rest.result.now c.args.strides.now c.rows_below-below.result.now c.args.places.now c.args.out.now c.args.at c.rows_below-below.ensures can c.loop.counter c.loop.here c.advance.new.places (c.loop.invariant.here) (search rules) c.advance.ensures;
+      here = advanced g.met.C.Cell.laws g.met.C.Cell.sizes c.args.cells.now (first_of c.args.axes.now) c.after-rest.result.now c.args.strides.now c.rows_below-below.result.now c.args.places.now c.args.out.now c.args.at c.rows_below-below.ensures can c.loop.counter c.loop.here c.advance.new.places c.loop.invariant.here c.advance.auto.places c.advance.ensures;
       place = omega (arith, c.loop.invariant.place);
-      len = search rules;
+      len = c.walk_cells.auto.out ∙ c.loop.invariant.len;
       adds = adds_next g.met.C.Cell.laws g.met.C.Cell.sizes c.args.cells.now (first_of c.args.axes.now) c.after-rest.result.now c.args.strides.now c.rows_below-below.result.now c.args.places.now c.args.out.now c.args.at c.rows_below-below.ensures can c.loop.counter c.loop.here c.loop.place c.loop.out c.walk_cells.new.out c.loop.invariant.here c.loop.invariant.place c.loop.invariant.adds c.walk_cells.ensures;
     }
 
 pub returns : goal.returns
 returns g t c =
-    let some : 0 < length c.args.axes.now = search rules in
+    let some = some_axis c.args.axes.now c.if-is_empty.ensures in
     let can = can_walk g.C.Cell.ring c.args.cells.now c.args.axes.now c.after-rest.result.now c.args.strides.now c.args.places.now c.args.out.now c.args.at some c.after-rest.ensures c.requires in
-    let done : c.loop.counter ≡ (first_of c.args.axes.now).states = omega (arith, c.loop-test.false, c.loop.auto.counter-end) in
-    let there : c.loop.here ≡ shifted (first_of c.args.axes.now).states c.args.strides.now c.args.places.now = subst (λ k. c.loop.here ≡ shifted k c.args.strides.now c.args.places.now) done c.loop.invariant.here in
-    subst (λ l. AddsCells g.C.Cell.ring (total g.C.Cell.ring c.args.cells.now l c.args.strides.now c.args.places.now c.args.at) c.args.out.now c.loop.out) (sym (split c.args.axes.now (record { states = 0; out = 0 }) some ∙ ap (λ l. first_of c.args.axes.now ∷ l) (sym c.after-rest.ensures)))
-    (adds_all g.met.C.Cell.laws g.met.C.Cell.sizes c.args.cells.now (first_of c.args.axes.now) c.after-rest.result.now c.args.strides.now c.rows_below-below.result.now c.args.places.now c.args.out.now c.args.at c.rows_below-below.ensures can c.loop.counter c.loop.out done c.loop.invariant.adds)
+    adds_as g.C.Cell.ring c.args.cells.now c.args.axes.now (first_of c.args.axes.now ∷ c.after-rest.result.now) (first_and_rest c.args.axes.now c.after-rest.result.now some c.after-rest.ensures) c.args.strides.now c.args.places.now c.args.at c.args.out.now c.loop.out
+    (adds_all g.met.C.Cell.laws g.met.C.Cell.sizes c.args.cells.now (first_of c.args.axes.now) c.after-rest.result.now c.args.strides.now c.rows_below-below.result.now c.args.places.now c.args.out.now c.args.at c.rows_below-below.ensures can c.loop.counter c.loop.out (same_end c.loop.counter (first_of c.args.axes.now).states c.loop-test.false c.loop.auto.counter-end) c.loop.invariant.adds)

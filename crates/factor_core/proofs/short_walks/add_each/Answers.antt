@@ -1,10 +1,11 @@
-use Rattle.std.proofs.Common.{rules, ◌≡◌, ◌==◌, cond, length, drop, [], arith, refl, sym, ap, subst}
+use Rattle.std.proofs.Common.{◌≡◌, length, drop, [], arith, refl, sym, ◌∙◌}
 use Rattle.cell_rings.specs.Rings.{mass_ring}
-use Rattle.cell_rings.specs.Sums.{product_at, sizes_of, AddsCells}
+use Rattle.cell_rings.specs.Sums.{product_at, sizes_of}
 use Rattle.cell_rings.proofs.Runs.{chosen}
-use Rattle.factor_core.specs.Walks.{shifted}
-use Rattle.factor_core.proofs.Shifts.{shifted_none, length-shifted}
-use Rattle.factor_core.proofs.Walking.{strides_enough, place_fits, advance_fits, advanced, can_next, adds_first, adds_next, adds_all}
+use Rattle.factor_core.proofs.Shifts.{shifted_none}
+use Rattle.factor_core.proofs.Walking.{place_fits, advance_fits, advanced, can_next, adds_first, adds_next, adds_all, still_enough}
+use Rattle.factor_core.proofs.FewAxes.{adds_same}
+use Rattle.factor_core.proofs.Ends.{same_end}
 use Rattle.factor_core.proofs.short_walks.add_each.Goals as goal
 
 pub loop-init : goal.loop-init
@@ -46,33 +47,34 @@ add_at-requires-clause-fits g c =
 pub overflow_add-place : goal.overflow_add-place
 overflow_add-place g c =
     let m = g.met.C.Cell in
-    search (rules, place_fits m.laws m.sizes c.args.cells.now c.args.axis [] c.args.strides.now (drop (length c.args.places.now) c.args.strides.now) c.args.places.now c.args.out.now c.args.at refl c.requires c.loop.counter c.loop.place c.loop-test.true c.loop.invariant.place)
+    omega (arith, place_fits m.laws m.sizes c.args.cells.now c.args.axis [] c.args.strides.now (drop (length c.args.places.now) c.args.strides.now) c.args.places.now c.args.out.now c.args.at refl c.requires c.loop.counter c.loop.place c.loop-test.true c.loop.invariant.place)
 
 pub advance-requires-clause-strides : goal.advance-requires-clause-strides
 advance-requires-clause-strides g c =
     let m = g.met.C.Cell in
-    omega (arith, strides_enough m.laws m.sizes c.args.cells.now c.args.axis [] c.args.strides.now (drop (length c.args.places.now) c.args.strides.now) c.args.places.now c.args.out.now c.args.at refl c.requires, ap length c.loop.invariant.here, length-shifted c.loop.counter c.args.strides.now c.args.places.now)
+    still_enough m.laws m.sizes c.args.cells.now c.args.axis [] c.args.strides.now (drop (length c.args.places.now) c.args.strides.now) c.args.places.now c.args.out.now c.args.at refl c.requires c.loop.counter c.loop.here c.loop.invariant.here
 
 pub advance-requires-clause-fits : goal.advance-requires-clause-fits
 advance-requires-clause-fits g c =
     let m = g.met.C.Cell in
     advance_fits m.laws m.sizes c.args.cells.now c.args.axis [] c.args.strides.now (drop (length c.args.places.now) c.args.strides.now) c.args.places.now c.args.out.now c.args.at refl c.requires c.loop.counter c.loop.here c.loop-test.true c.loop.invariant.here
 
+pub loop-smaller : goal.loop-smaller
+loop-smaller g c = omega (arith, c.loop-test.true)
+
 pub loop-preserved : goal.loop-preserved
 loop-preserved g c =
     let m = g.met.C.Cell in
     let r = g.C.Cell.ring in
-    let cell = subst (λ x. AddsCells r (λ p. cond (p == c.loop.place) x r.nought) c.loop.out c.add_at.new.out) c.product.ensures.product c.add_at.ensures in
+    let cell = adds_same r c.loop.place c.loop.out c.add_at.new.out c.product.result (product_at r c.args.cells.now c.loop.here) c.product.ensures.product c.add_at.ensures in
     record {
-      here = advanced m.laws m.sizes c.args.cells.now c.args.axis [] c.args.strides.now (drop (length c.args.places.now) c.args.strides.now) c.args.places.now c.args.out.now c.args.at refl c.requires c.loop.counter c.loop.here c.advance.new.places c.loop.invariant.here (search rules) c.advance.ensures;
+      here = advanced m.laws m.sizes c.args.cells.now c.args.axis [] c.args.strides.now (drop (length c.args.places.now) c.args.strides.now) c.args.places.now c.args.out.now c.args.at refl c.requires c.loop.counter c.loop.here c.advance.new.places c.loop.invariant.here c.advance.auto.places c.advance.ensures;
       place = omega (arith, c.loop.invariant.place);
-      len = search rules;
+      len = c.add_at.auto.out ∙ c.loop.invariant.len;
       adds = adds_next m.laws m.sizes c.args.cells.now c.args.axis [] c.args.strides.now (drop (length c.args.places.now) c.args.strides.now) c.args.places.now c.args.out.now c.args.at refl c.requires c.loop.counter c.loop.here c.loop.place c.loop.out c.add_at.new.out c.loop.invariant.here c.loop.invariant.place c.loop.invariant.adds cell;
     }
 
 pub returns : goal.returns
 returns g c =
     let m = g.met.C.Cell in
-    let done : c.loop.counter ≡ c.args.axis.states = omega (arith, c.loop-test.false, c.loop.auto.counter-end) in
-    let there : c.loop.here ≡ shifted c.args.axis.states c.args.strides.now c.args.places.now = subst (λ k. c.loop.here ≡ shifted k c.args.strides.now c.args.places.now) done c.loop.invariant.here in
-    adds_all m.laws m.sizes c.args.cells.now c.args.axis [] c.args.strides.now (drop (length c.args.places.now) c.args.strides.now) c.args.places.now c.args.out.now c.args.at refl c.requires c.loop.counter c.loop.out done c.loop.invariant.adds
+    adds_all m.laws m.sizes c.args.cells.now c.args.axis [] c.args.strides.now (drop (length c.args.places.now) c.args.strides.now) c.args.places.now c.args.out.now c.args.at refl c.requires c.loop.counter c.loop.out (same_end c.loop.counter c.args.axis.states c.loop-test.false c.loop.auto.counter-end) c.loop.invariant.adds

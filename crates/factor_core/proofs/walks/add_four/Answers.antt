@@ -1,7 +1,22 @@
-use Rattle.std.proofs.Common.{refl}
+use Rattle.std.proofs.Common.{refl, arith}
 use Rattle.cell_rings.specs.Sums.{two_scaled, two_sizes}
 use Rattle.cell_rings.proofs.Together.{room_first, room_then, both_added, two_size}
 use Rattle.factor_core.proofs.walks.add_four.Goals as goal
+
+pub add_four_narrow-requires-clause-out : goal.add_four_narrow-requires-clause-out
+add_four_narrow-requires-clause-out g c = c.requires.out
+
+pub add_four_narrow-requires-clause-cells : goal.add_four_narrow-requires-clause-cells
+add_four_narrow-requires-clause-cells g c = c.requires.cells
+
+pub add_four_narrow-requires-clause-room : goal.add_four_narrow-requires-clause-room
+add_four_narrow-requires-clause-room g c = c.requires.room
+
+pub add_two_scaled-requires-clause-out : goal.add_two_scaled-requires-clause-out
+add_two_scaled-requires-clause-out g c = c.requires.out
+
+pub add_two_scaled-requires-clause-cells : goal.add_two_scaled-requires-clause-cells
+add_two_scaled-requires-clause-cells g c = c.requires.cells.0
 
 pub add_two_scaled-requires-clause-room : goal.add_two_scaled-requires-clause-room
 add_two_scaled-requires-clause-room g c =
@@ -10,12 +25,21 @@ add_two_scaled-requires-clause-room g c =
     let cells = c.args.cells.now in
     room_first m.laws m.sizes c.args.n c.args.at (two_scaled r (λ f. f) cells c.args.one.now) (two_scaled r (λ f. f) cells c.args.other.now) (two_sizes r r.size cells c.args.one.now) (two_sizes r r.size cells c.args.other.now) (two_size m.laws m.sizes (λ f. f) r.size (λ a. refl) cells c.args.one.now) c.args.out.now c.requires.room
 
+pub add_two_scaled-requires-else-has-clause-out : goal.add_two_scaled-requires-else-has-clause-out
+add_two_scaled-requires-else-has-clause-out g c = omega (arith, c.requires.out, c.add_two_scaled.auto.out)
+
+pub add_two_scaled-requires-else-has-clause-cells : goal.add_two_scaled-requires-else-has-clause-cells
+add_two_scaled-requires-else-has-clause-cells g c = c.requires.cells.1
+
 pub add_two_scaled-requires-else-has-clause-room : goal.add_two_scaled-requires-else-has-clause-room
 add_two_scaled-requires-else-has-clause-room g c =
     let r = g.C.Cell.ring in
     let m = g.met.C.Cell in
     let cells = c.args.cells.now in
     room_then m.laws m.sizes c.args.n c.args.at (two_scaled r (λ f. f) cells c.args.one.now) (two_scaled r (λ f. f) cells c.args.other.now) (two_sizes r r.size cells c.args.one.now) (two_sizes r r.size cells c.args.other.now) (two_size m.laws m.sizes (λ f. f) r.size (λ a. refl) cells c.args.one.now) c.args.out.now c.requires.room c.add_two_scaled.new.out c.add_two_scaled.ensures
+
+pub returns-then-has-4 : goal.returns-then-has-4
+returns-then-has-4 g c = c.add_four_narrow.ensures
 
 pub returns-else-has : goal.returns-else-has
 returns-else-has g c =

@@ -1,6 +1,5 @@
-use Rattle.std.proofs.Common.{arith, ap, ◌∙◌}
-use Rattle.cell_rings.specs.Sums.{cell_at}
-use Rattle.factor_core.proofs.MovedRuns.{moved_read, moved_total, moved_load, moved_in_out, moved_in_cells}
+use Rattle.std.proofs.Common.{arith}
+use Rattle.factor_core.proofs.MovedRuns.{moved_read, moved_adds, moved_load, moved_in_out, moved_in_cells}
 use Rattle.factor_core.proofs.walks.add_moved.Goals as goal
 
 pub read_run-run-requires : goal.read_run-run-requires
@@ -27,10 +26,5 @@ add_scaled-requires-clause-room g c =
 
 pub returns : goal.returns
 returns g c =
-    let r = g.C.Cell.ring in
     let m = g.met.C.Cell in
-    record {
-      each = λ p.
-          c.add_scaled.ensures.each p
-          ∙ ap (r.plus (cell_at r c.args.out.now p)) (moved_total m.laws m.sizes c.args.cells.now c.args.axis c.args.strides.now c.args.places.now c.args.out.now c.args.at c.args.turned c.requires.moved c.read_run-run.result.factor c.read_run-run.result.from c.read_run-run.ensures p);
-    }
+    moved_adds m.laws m.sizes c.args.cells.now c.args.axis c.args.strides.now c.args.places.now c.args.out.now c.args.at c.args.turned c.requires.moved c.read_run-run.result.factor c.read_run-run.result.from c.read_run-run.ensures c.add_scaled.new.out c.add_scaled.ensures

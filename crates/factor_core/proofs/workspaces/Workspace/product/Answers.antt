@@ -1,12 +1,48 @@
-use Rattle.std.proofs.Common.{◌≡◌, ◌∙◌, take, sym, ap, subst}
-use Rattle.maid_model.specs.Nodes.{states_of}
-use Rattle.ring_sums.specs.Groups.{ProductsFit}
-use Rattle.factor_core.specs.Slots.{tables_of}
+use Rattle.std.proofs.Common.{◌∙◌, ◌+◌, All, inl, subst, arith}
+use Rattle.factor_core.specs.Slots.{WorkspaceView, IsLiveSlot, ProductOfFits, HasSpareForProduct, AppendsProduct}
+use Rattle.factor_core.proofs.Spaces.{as_space, as_views}
 use Rattle.factor_core.proofs.workspaces.Workspace.product.Goals as goal
+
+pub blank-requires-clause-few : goal.blank-requires-clause-few
+blank-requires-clause-few g c = c.self.invariant.1
+
+pub blank-requires-clause-held : goal.blank-requires-clause-held
+blank-requires-clause-held g c = c.self.invariant.3
+
+pub product_behind-slot-requires-clause-used : goal.product_behind-slot-requires-clause-used
+product_behind-slot-requires-clause-used g c = omega (arith, c.self.invariant.0, c.self.invariant.1, c.blank.ensures.len, c.as_mut_slice.ensures.len)
+
+pub product_behind-slot-requires-clause-short : goal.product_behind-slot-requires-clause-short
+product_behind-slot-requires-clause-short g c = omega (arith, c.self.invariant.2, c.blank.ensures.len, c.as_mut_slice.ensures.len)
+
+pub product_behind-slot-requires-clause-diagram : goal.product_behind-slot-requires-clause-diagram
+product_behind-slot-requires-clause-diagram g c = c.requires.diagram
+
+pub product_behind-slot-requires-clause-few : goal.product_behind-slot-requires-clause-few
+product_behind-slot-requires-clause-few g c = c.requires.few
+
+pub product_behind-slot-requires-clause-live : goal.product_behind-slot-requires-clause-live
+product_behind-slot-requires-clause-live g c =
+    let is = as_space c.args.self.now c.self.inside.cells.items c.blank.new.cells.items c.as_mut_slice.result.now c.self.inside.used c.self.inside.room c.self.view_is (c.blank.ensures.first c.self.inside.used c.self.invariant.0) c.as_mut_slice.ensures.value (c.as_mut_slice.ensures.len ∙ c.blank.ensures.len) in
+    subst (λ (s : WorkspaceView g.row.C.Denot). All (IsLiveSlot c.args.diagram.now.nodes s.cells) c.args.slots.now) is c.requires.live
 
 pub product_behind-slot-requires-clause-fits : goal.product_behind-slot-requires-clause-fits
 product_behind-slot-requires-clause-fits g c =
-    let r = g.C.Cell.ring in
-    let nodes = c.args.diagram.now.nodes in
-    let same : c.args.self.now.cells ≡ take c.self.inside.used c.as_mut_slice.result.now = sym (ap (λ v. v.cells) c.self.view_is) ∙ sym (c.blank.ensures.first c.self.inside.used c.self.invariant.0) ∙ ap (take c.self.inside.used) (sym c.as_mut_slice.ensures.value) in
-    subst (λ cells. ProductsFit r.size (states_of nodes) r.most (tables_of r nodes cells c.args.slots.now)) same c.requires.fits
+    let is = as_space c.args.self.now c.self.inside.cells.items c.blank.new.cells.items c.as_mut_slice.result.now c.self.inside.used c.self.inside.room c.self.view_is (c.blank.ensures.first c.self.inside.used c.self.invariant.0) c.as_mut_slice.ensures.value (c.as_mut_slice.ensures.len ∙ c.blank.ensures.len) in
+    subst (ProductOfFits g.C.Cell.ring c.args.diagram.now.nodes c.args.slots.now) is c.requires.fits
+
+pub product_behind-slot-requires-clause-room : goal.product_behind-slot-requires-clause-room
+product_behind-slot-requires-clause-room g c =
+    let is = as_space c.args.self.now c.self.inside.cells.items c.blank.new.cells.items c.as_mut_slice.result.now c.self.inside.used c.self.inside.room c.self.view_is (c.blank.ensures.first c.self.inside.used c.self.invariant.0) c.as_mut_slice.ensures.value (c.as_mut_slice.ensures.len ∙ c.blank.ensures.len) in
+    subst (HasSpareForProduct g.C.Cell.ring c.args.diagram.now.nodes c.args.slots.now) is c.requires.room
+
+pub overflow_add-self : goal.overflow_add-self
+overflow_add-self g c = omega (arith, c.product_behind-slot.ensures.len, c.product_behind-slot.auto.all, c.as_mut_slice.type_inv.0)
+
+pub invariant_of-self : goal.invariant_of-self
+invariant_of-self g c = (omega (arith, c.product_behind-slot.ensures.len, c.product_behind-slot.auto.all, c.as_mut_slice.ensures.len), omega (arith, c.blank.ensures.len), c.self.invariant.2, inl c.blank.ensures.len)
+
+pub returns : goal.returns
+returns g c =
+    let is = as_space c.args.self.now c.self.inside.cells.items c.blank.new.cells.items c.as_mut_slice.result.now c.self.inside.used c.self.inside.room c.self.view_is (c.blank.ensures.first c.self.inside.used c.self.invariant.0) c.as_mut_slice.ensures.value (c.as_mut_slice.ensures.len ∙ c.blank.ensures.len) in
+    as_views (λ s t. AppendsProduct g.C.Cell.ring c.args.diagram.now.nodes c.args.slots.now s t c.product_behind-slot.result) c.args.self.now c.as_mut_slice.result.now c.product_behind-slot.new.all c.blank.new.cells c.self.inside.used (c.self.inside.used + c.product_behind-slot.result.len) c.self.inside.room is (c.product_behind-slot.auto.all ∙ c.as_mut_slice.ensures.len) c.blank.ensures.len c.product_behind-slot.ensures.table

@@ -1,0 +1,74 @@
+use Rattle.std.proofs.Common.{length, drop, [], refl}
+use Rattle.factor_core.proofs.Walking.{strides_enough}
+use Rattle.factor_core.proofs.walks.add_axis.Goals as goal
+
+pub is_run-requires : goal.is_run-requires
+is_run-requires g c =
+    let m = g.met.C.Cell in
+    strides_enough m.laws m.sizes c.args.cells.now c.args.axis [] c.args.strides.now (drop (length c.args.places.now) c.args.strides.now) c.args.places.now c.args.out.now c.args.at refl c.requires
+
+pub add_moved-requires-clause-moved : goal.add_moved-requires-clause-moved
+add_moved-requires-clause-moved g c = c.if-is_run.ensures refl
+
+pub add_moved-requires-clause-can : goal.add_moved-requires-clause-can
+add_moved-requires-clause-can g c = c.requires
+
+pub returns-then-is_run-clause-adds : goal.returns-then-is_run-clause-adds
+returns-then-is_run-clause-adds g c = c.add_moved.ensures
+
+pub returns-then-is_run-clause-places : goal.returns-then-is_run-clause-places
+returns-then-is_run-clause-places g c = refl
+
+pub is_turned-requires : goal.is_turned-requires
+is_turned-requires g c =
+    let m = g.met.C.Cell in
+    strides_enough m.laws m.sizes c.args.cells.now c.args.axis [] c.args.strides.now (drop (length c.args.places.now) c.args.strides.now) c.args.places.now c.args.out.now c.args.at refl c.requires
+
+pub add_moved-requires-then-is_turned-clause-moved : goal.add_moved-requires-then-is_turned-clause-moved
+add_moved-requires-then-is_turned-clause-moved g c = c.if-is_turned.ensures.0 refl
+
+pub add_moved-requires-then-is_turned-clause-can : goal.add_moved-requires-then-is_turned-clause-can
+add_moved-requires-then-is_turned-clause-can g c = c.requires
+
+pub returns-then-is_turned-clause-adds : goal.returns-then-is_turned-clause-adds
+returns-then-is_turned-clause-adds g c = c.add_moved-then-is_turned.ensures
+
+pub returns-then-is_turned-clause-places : goal.returns-then-is_turned-clause-places
+returns-then-is_turned-clause-places g c = refl
+
+pub count_standing-stand-requires : goal.count_standing-stand-requires
+count_standing-stand-requires g c =
+    let m = g.met.C.Cell in
+    strides_enough m.laws m.sizes c.args.cells.now c.args.axis [] c.args.strides.now (drop (length c.args.places.now) c.args.strides.now) c.args.places.now c.args.out.now c.args.at refl c.requires
+
+pub is_dot-requires-clause-count : goal.is_dot-requires-clause-count
+is_dot-requires-clause-count g c =
+    let m = g.met.C.Cell in
+    strides_enough m.laws m.sizes c.args.cells.now c.args.axis [] c.args.strides.now (drop (length c.args.places.now) c.args.strides.now) c.args.places.now c.args.out.now c.args.at refl c.requires
+
+pub is_dot-requires-clause-stand : goal.is_dot-requires-clause-stand
+is_dot-requires-clause-stand g c = c.count_standing-stand.ensures.within
+
+pub is_dot-requires-clause-fixed : goal.is_dot-requires-clause-fixed
+is_dot-requires-clause-fixed g c = c.count_standing-stand.ensures.fixed
+
+pub add_dot-requires-clause-dot : goal.add_dot-requires-clause-dot
+add_dot-requires-clause-dot g c = c.if-is_dot.ensures refl
+
+pub add_dot-requires-clause-can : goal.add_dot-requires-clause-can
+add_dot-requires-clause-can g c = c.requires
+
+pub returns-then-is_dot-clause-adds : goal.returns-then-is_dot-clause-adds
+returns-then-is_dot-clause-adds g c = c.add_dot.ensures
+
+pub returns-then-is_dot-clause-places : goal.returns-then-is_dot-clause-places
+returns-then-is_dot-clause-places g c = refl
+
+pub add_line-requires : goal.add_line-requires
+add_line-requires g c = c.requires
+
+pub returns-clause-adds : goal.returns-clause-adds
+returns-clause-adds g c = c.add_line.ensures.adds
+
+pub returns-clause-places : goal.returns-clause-places
+returns-clause-places g c = c.add_line.ensures.places
