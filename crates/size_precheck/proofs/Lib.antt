@@ -7,6 +7,7 @@ pub mod Stepping
 pub mod Running
 pub mod Starting
 pub mod Putting
+pub mod Walking
 pub mod Planning
 pub mod Orders
 pub mod Measuring

@@ -1,5 +1,5 @@
 -- Along the steps of a plan: what is known after each is what its scopes say.
-use Rattle.std.proofs.Common.{◌≡◌, ◌∙◌, ◌↔◌, ℕ, suc, ◌+◌, ◌-◌, ◌*◌, ◌<◌, ◌≤◌, Bool, true, false, cond, not, filter, List, [], ◌∷◌, ◌++◌, length, take, refl, sym, ap, subst, inl, inr, arith}
+use Rattle.std.proofs.Common.{◌≡◌, ◌∙◌, ◌↔◌, ℕ, suc, ◌+◌, ◌-◌, ◌*◌, ◌<◌, ◌≤◌, Bool, true, false, cond, not, filter, List, [], ◌∷◌, ◌++◌, length, take, refl, sym, ap, subst, inl, inr, arith, rules}
 use Rattle.std.specs.Prelude.{Contains, slice_index, sum_by}
 use Rattle.std.proofs.lemmas.List.{length_push}
 use Rattle.std.proofs.lemmas.List.Elements.{Contains-push, Contains-push_cases, Contains-append_left}
@@ -12,11 +12,12 @@ use Rattle.ring_sums.specs.Tables.{joined_without, scopes_one, scopes_after}
 use Rattle.size_precheck.specs.declared.joints.Joint.{Joint}
 use Rattle.size_precheck.specs.declared.joints.Table.{Table}
 use Rattle.size_precheck.specs.declared.simulation.Made.{Made}
+use Rattle.size_precheck.specs.declared.simulation.Start.{Start}
 use Rattle.maid_model.specs.Bounds.{stopped}
 use Rattle.size_precheck.specs.Classes.{IsFewest}
 use Rattle.size_precheck.specs.Counts.{counted_cells}
 use Rattle.size_precheck.specs.Greedy.{holding, joined_set, joined_cells, IsNext}
-use Rattle.size_precheck.specs.Joints.{joint_at, AreStateCounts, HoldsOfEach, Stands, IsGreedyStep, tests_of}
+use Rattle.size_precheck.specs.Joints.{joint_at, AreStateCounts, HoldsOfEach, Stands, IsGreedyStart, IsGreedyStep, tests_of}
 use Rattle.size_precheck.specs.Sizes.{made_cells, steps_work}
 use Rattle.size_precheck.proofs.Counting.{stop_part, stop_later}
 use Rattle.size_precheck.proofs.Orders.{next_more}
@@ -91,6 +92,22 @@ pub record At (nodes : List NodeView) (states : List ℕ) (Item Rest : ℕ → T
   pub live_is : live ≡ length (scopes_after steps scopes)
   pub cells_are : cells ≡ stopped (sum_by (λ s. counted_cells nodes s) scopes + made_cells nodes steps scopes)
   pub work_is : work ≡ stopped (steps_work nodes steps scopes)
+
+-- before the first step
+pub at_none : (nodes : List NodeView) (states : List ℕ) (Item : ℕ → Type 0) (scopes : List (ℕ → Bool)) (start : Start) → IsGreedyStart nodes states Item scopes start
+    → At nodes states Item Item scopes [] start.known.joints.items start.known.counts.items start.live start.cells 0
+at_none nodes states Item scopes start begun = record {
+  tables = begun.tables;
+  stands = record { live = begun.are_live; tells = begun.tells; counted = begun.counted };
+  scopes_are = begun.scopes_are;
+  each = λ k l. absurd (omega arith);
+  live_is = begun.live;
+  cells_are = begun.cells ∙ ap (λ n. stopped n) (omega arith);
+  work_is = refl;
+}
+
+pub remains_none : (Item : ℕ → Type 0) (x : ℕ) → Item x ↔ Remains Item [] x
+remains_none Item x = ((λ m. (m, search rules)), (λ r. r.0))
 
 module _ (nodes : List NodeView) (states : List ℕ) (Item : ℕ → Type 0) (rest : NodeSet) (scopes : List (ℕ → Bool)) (steps : List ℕ)
     (joints : List Joint) (counts : List ℕ) (live cells work : ℕ) (are : AreStateCounts nodes states)

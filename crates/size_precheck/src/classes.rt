@@ -10,7 +10,7 @@ use node_sets::NodeSet;
 use std::alloc::{AllocError, Global};
 
 /// Nodes that wait, whose joined sets all have this many cells.
-#[derive(Clone, Copy, Debug)]
+#[derive(Clone, Copy)]
 pub struct Class {
     pub cells: u64,
     pub nodes: NodeSet,

@@ -8,14 +8,14 @@ ghost use Rattle.size_precheck.specs.Joints.{joint_at, IsPut, IsPutToAll};
 use node_sets::NodeSet;
 
 /// A table: the number of the node that it came of, and the nodes of its scope.
-#[derive(Clone, Copy, Debug)]
+#[derive(Clone, Copy)]
 pub struct Table {
     pub tag: usize,
     pub scope: NodeSet,
 }
 
 /// The live tables that hold a node.
-#[derive(Clone, Copy, Debug)]
+#[derive(Clone, Copy)]
 pub struct Joint {
     /// The node's joined set: all nodes of these tables.
     pub set: NodeSet,

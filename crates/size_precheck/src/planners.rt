@@ -16,7 +16,7 @@ use node_sets::{NodeSet, ancestors};
 use std::alloc::{AllocError, Global};
 
 /// What is known of a node, whatever the plan.
-#[derive(Clone, Copy, Debug)]
+#[derive(Clone, Copy)]
 pub struct Family {
     /// The table over the node and its parents.
     pub table: Table,

@@ -1,5 +1,7 @@
-use Rattle.std.proofs.Common.{◌+◌, refl, arith}
-use Rattle.size_precheck.proofs.Classing.{walked_less, walked_here, walked_all, before_number}
+use Rattle.std.proofs.Common.{◌+◌, List, refl, subst, sym, arith}
+use Rattle.size_precheck.specs.declared.classes.Class.{Class}
+use Rattle.size_precheck.specs.Classes.{AreClasses}
+use Rattle.size_precheck.proofs.Classing.{walked_less, walked_here, walked_all, before_number, no_classes}
 use Rattle.size_precheck.proofs.classes.list_classes.Goals as goal
 
 pub nodes-preserved : goal.nodes-preserved
@@ -10,3 +12,21 @@ nodes-preserved c = record {
 
 pub returns : goal.returns
 returns c = walked_all c.args.counts.now c.args.nodes.now c.nodes.from c.nodes.classes.items c.in_default.ensures c.nodes.invariant.classes
+
+pub nodes-init : goal.nodes-init
+nodes-init c = record {
+  within = omega arith;
+  classes = subst (λ (cs : List Class). AreClasses c.args.counts.now (before_number c.args.nodes.now 0) cs) (sym c.in_ok-classes.ensures.items) (no_classes c.args.counts.now c.args.nodes.now);
+}
+
+pub bounds-counts-v : goal.bounds-counts-v
+bounds-counts-v c = c.requires c.in-Some.v c.in-Some.ensures.inside
+
+pub put_node-requires : goal.put_node-requires
+put_node-requires c = c.in-Some.ensures.small
+
+pub overflow_add-from : goal.overflow_add-from
+overflow_add-from c = let l = c.in-Some.ensures.small in omega arith
+
+pub nodes-smaller : goal.nodes-smaller
+nodes-smaller c = let l = c.in-Some.ensures.small in let n = c.in-Some.ensures.not_before in omega arith

@@ -1,4 +1,5 @@
-use Rattle.std.proofs.Common.{◌∙◌, ◌+◌, [], ◌∷◌, ◌++◌, cond, Vec, Global, subst, sym}
+use Rattle.std.proofs.Common.{◌≡◌, ◌∙◌, ℕ, ◌+◌, List, [], ◌∷◌, ◌++◌, cond, filter, length, map, Vec, Global, refl, subst, sym, arith}
+use Rattle.std.specs.List.{range_with_len}
 use Rattle.std.proofs.lemmas.List.{append-nil}
 use Rattle.std.proofs.lemmas.List.Elements.{All-push}
 use Rattle.maid_model.specs.Nodes.{is_decision, node_at}
@@ -29,3 +30,18 @@ loop-decision-preserved c =
             all = so_far.all;
           })
     ]
+
+pub loop-decision-init : goal.loop-decision-init
+loop-decision-init c = subst (KeepsSoFar c.args.diagram.now.nodes 0) (sym {A = List KeptPlans} c.new-kept.ensures.items) (record { decisions = refl; all = λ k d l. absurd (omega arith) })
+
+pub decision_by-requires-clause-decision : goal.decision_by-requires-clause-decision
+decision_by-requires-clause-decision c = c.is_decision.ensures.decision.0 c.if-is_decision.true
+
+pub returns-clause-decisions : goal.returns-clause-decisions
+returns-clause-decisions c =
+    let nodes = c.args.diagram.now.nodes in
+    let end : c.loop-decision.decision ≡ length nodes = omega (arith, c.loop-decision-test.false, c.loop-decision.auto.decision-end, c.count-decision-end.ensures.count) in
+    subst (λ (n : ℕ). map (λ (k : KeptPlans). k.decision) c.loop-decision.kept.items ≡ filter (λ v. is_decision (node_at nodes v).kind) (range_with_len 0 n)) end c.loop-decision.invariant.decisions
+
+pub returns-clause-kept : goal.returns-clause-kept
+returns-clause-kept c = c.loop-decision.invariant.all

@@ -8,7 +8,7 @@ pub plan_by-requires-clause-asked : goal.plan_by-requires-clause-asked
 plan_by-requires-clause-asked c =
     let nodes = c.args.diagram.now.nodes in
     let keep : c.deref.result.now ≡ c.args.decision ∷ parents_of nodes c.args.decision = c.deref.ensures.value ∙ c.in_ok-extend_from_slice.ensures.items ∙ ap (λ (xs : List ℕ). xs ++ c.parents-parents.result.now) (c.in_ok-push.ensures.items ∙ ap (λ (xs : List ℕ). xs ++ c.args.decision ∷ []) c.in_ok-keep.ensures.items) ∙ ap (λ (xs : List ℕ). c.args.decision ∷ xs) c.parents-parents.ensures.parents in
-    subst (λ (xs : List ℕ). CanBePlanned nodes (record { keep = xs; without = Some c.args.decision; utility = Some c.args.goal })) (sym keep)
+    subst (λ (xs : List ℕ). CanBePlanned nodes (record { keep = xs; without = Some c.args.decision; utility = Some c.args.goal })) (sym {A = List ℕ} keep)
     (gain_planned nodes c.args.decision c.args.goal c.parents-parents.ensures.diagram.graph c.requires.decision c.requires.goal)
 
 pub returns-clause-asked : goal.returns-clause-asked

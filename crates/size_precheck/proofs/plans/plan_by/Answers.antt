@@ -1,11 +1,13 @@
-use Rattle.std.proofs.Common.{◌∙◌, ℕ, ◌≤◌, ◌^◌, Bool, List, [], map, ◌++◌, subst, sym, ap, arith}
+use Rattle.std.proofs.Common.{◌∙◌, ℕ, ◌≤◌, ◌^◌, Bool, List, [], length, map, ◌++◌, subst, sym, ap, arith}
 use Rattle.std.specs.Prelude.{Contains, option_to_list}
 use Rattle.maid_model.specs.Views.{NodeView}
 use Rattle.node_sets.specs.Sets.{IsIn}
 use Rattle.plan_sums.specs.Plans.{PlanView, ruled_nodes, eliminated_nodes, mass_cells}
+use Rattle.size_precheck.specs.declared.planners.Family.{Family}
+use Rattle.size_precheck.specs.Families.{AreAbove}
 use Rattle.size_precheck.specs.Joints.{AreStateCounts, IsGreedyStart, IsGreedyRun, family_test, parents_test}
 use Rattle.size_precheck.specs.Greedy.{first_scopes, IsGreedyOrder}
-use Rattle.size_precheck.proofs.Counting.{counted_few}
+use Rattle.size_precheck.proofs.Counting.{counted_few, stopped_few}
 use Rattle.size_precheck.proofs.Orders.{greedy_same, order_of_greedy}
 use Rattle.size_precheck.proofs.Planning.{all_known, all_plain, all_ruled, in_waiting, ruled_listed, scopes_listed, kept_counted, last_cells, last_work}
 use Rattle.size_precheck.proofs.Starting.{kept_known}
@@ -80,3 +82,45 @@ returns c =
       cells = last_cells _ _ _ _ _ run.cells last c.add-cells.ensures;
       work = last_work _ _ _ _ _ _ _ _ run.work last run.live c.multiply.ensures c.add-work.ensures;
     }
+
+pub plan_nodes-nodes-requires-clause-diagram : goal.plan_nodes-nodes-requires-clause-diagram
+plan_nodes-nodes-requires-clause-diagram c = c.requires.diagram
+
+pub plan_nodes-nodes-requires-clause-all : goal.plan_nodes-nodes-requires-clause-all
+plan_nodes-nodes-requires-clause-all c = ap (λ (fs : List Family). length fs) c.deref.ensures.value ∙ c.requires.planner.all
+
+pub plan_nodes-nodes-requires-clause-above : goal.plan_nodes-nodes-requires-clause-above
+plan_nodes-nodes-requires-clause-above c = subst (λ (fs : List Family). AreAbove c.args.diagram.now.nodes fs) (sym c.deref.ensures.value) (λ v l. (c.requires.planner.families v l).above)
+
+pub put_all_first-requires-clause-planner : goal.put_all_first-requires-clause-planner
+put_all_first-requires-clause-planner c = c.requires.planner
+
+pub eliminate_all-requires-clause-states : goal.eliminate_all-requires-clause-states
+eliminate_all-requires-clause-states c = ap (λ (xs : List ℕ). length xs) c.as_slice-states.ensures.value ∙ c.requires.planner.long
+
+pub eliminate_all-requires-clause-len : goal.eliminate_all-requires-clause-len
+eliminate_all-requires-clause-len c = c.in_ok-start.ensures.counts
+
+pub eliminate_all-requires-clause-few : goal.eliminate_all-requires-clause-few
+eliminate_all-requires-clause-few c = c.in_ok-start.ensures.few
+
+pub count_cells-last-requires : goal.count_cells-last-requires
+count_cells-last-requires c = ap (λ (xs : List ℕ). length xs) c.as_slice-states.ensures.value ∙ c.requires.planner.long
+
+pub add-cells-requires-clause-a : goal.add-cells-requires-clause-a
+add-cells-requires-clause-a c = c.in_ok-run.ensures.few
+
+pub add-work-requires-clause-a : goal.add-work-requires-clause-a
+add-work-requires-clause-a c = c.in_ok-run.ensures.little
+
+pub add-work-requires-clause-b : goal.add-work-requires-clause-b
+add-work-requires-clause-b c = subst (λ (n : ℕ). n ≤ 10 ^ 18) (sym c.multiply.ensures) (stopped_few _)
+
+pub plan_nodes-nodes-requires-clause-plan : goal.plan_nodes-nodes-requires-clause-plan
+plan_nodes-nodes-requires-clause-plan c = let plan = c.requires.asked.is_plan in record { different = plan.different; kept = plan.kept; without = λ d e. absurd (cc); utility = plan.utility }
+
+pub plan_nodes-nodes-requires-clause-known : goal.plan_nodes-nodes-requires-clause-known
+plan_nodes-nodes-requires-clause-known c = c.requires.asked.known
+
+pub put_all_first-requires-clause-known : goal.put_all_first-requires-clause-known
+put_all_first-requires-clause-known c = c.requires.asked.known

@@ -1,7 +1,8 @@
-use Rattle.std.proofs.Common.{◌≡◌, ◌⊎◌, ◌↔◌, ◌∙◌, ℕ, ◌+◌, ◌≤◌, ◌^◌, ◌-◌, Bool, List, length, refl, subst, sym, ap, inl, inr, arith}
+use Rattle.std.proofs.Common.{◌≡◌, ◌⊎◌, ◌↔◌, ◌∙◌, ℕ, ◌+◌, ◌<◌, ◌≤◌, ◌^◌, ◌-◌, Bool, List, length, refl, subst, sym, ap, inl, inr, arith}
 use Rattle.std.proofs.lemmas.List.{length_push}
 use Rattle.maid_model.specs.Placing.{Remains}
 use Rattle.maid_model.specs.Views.{NodeView}
+use Rattle.node_sets.specs.declared.sets.NodeSet.{NodeSet}
 use Rattle.node_sets.specs.Sets.{holds, IsIn}
 use Rattle.size_precheck.specs.declared.classes.Class.{Class}
 use Rattle.size_precheck.specs.Classes.{AreClasses, IsFewest}
@@ -9,7 +10,7 @@ use Rattle.size_precheck.specs.Greedy.{IsNext}
 use Rattle.size_precheck.specs.Joints.{Stands, IsGreedyStart}
 use Rattle.size_precheck.proofs.Classing.{found_next, none_next, removed_fewer, removed_less}
 use Rattle.size_precheck.proofs.Counting.{stopped_few}
-use Rattle.size_precheck.proofs.Running.{At, remains_push, stands_less, is_next, joined_few, at_more}
+use Rattle.size_precheck.proofs.Running.{At, at_none, remains_none, remains_push, stands_less, is_next, joined_few, at_more}
 use Rattle.size_precheck.proofs.simulation.eliminate_all.Goals as goal
 
 pub overflow_sub-live : goal.overflow_sub-live
@@ -80,3 +81,86 @@ returns-clause-run c nodes scopes started =
       cells = now.cells_are;
       work = now.work_is;
     }
+
+pub list_classes-requires : goal.list_classes-requires
+list_classes-requires c v m = subst (λ (xs : List ℕ). v < length xs) (sym c.deref.ensures.value) (subst (λ (n : ℕ). v < n) (sym c.requires.len) (c.requires.within v m).0)
+
+pub steps-init : goal.steps-init
+steps-init c = record {
+  classes = subst (λ (xs : List ℕ). AreClasses xs (holds c.args.waiting) c.in_ok-classes.classes.items) c.deref.ensures.value c.in_ok-classes.ensures;
+  joints_len = refl;
+  counts_len = c.requires.len;
+  remains = subst (λ (xs : List ℕ). (x : ℕ) → IsIn c.args.waiting x ↔ Remains (IsIn c.args.waiting) xs x) (sym c.in_ok-steps.ensures.items) (remains_none (IsIn c.args.waiting));
+  live = let few = c.requires.few in omega arith;
+  few = subst (λ (n : ℕ). n ≤ 10 ^ 18) (sym c.requires.started.2.cells) (stopped_few _);
+  little = omega arith;
+  at = λ nodes scopes begun. subst (λ (xs : List ℕ). At nodes c.args.states.now (IsIn c.args.waiting) (IsIn c.args.waiting) scopes xs c.args.start.known.joints.items c.args.start.known.counts.items c.args.start.live c.args.start.cells 0)
+      (sym c.in_ok-steps.ensures.items) (at_none nodes c.args.states.now (IsIn c.args.waiting) scopes c.args.start begun);
+}
+
+-- the node that is found waits
+found_waits : (counts : List ℕ) (rest : NodeSet) (v : ℕ) (seen classes : List Class) → (AreClasses counts (holds rest) seen → IsFewest counts (holds rest) v) → seen ≡ classes → AreClasses counts (holds rest) classes → IsIn rest v
+found_waits counts rest v seen classes fewest same are = (fewest (subst (λ (cs : List Class). AreClasses counts (holds rest) cs) (sym same) are)).waiting
+
+pub count_of-requires : goal.count_of-requires
+count_of-requires c =
+    let inv = c.steps.invariant in
+    let v : ℕ = c.in-Some.v in
+    let waits = found_waits c.steps.known.counts.items c.steps.rest v c.deref-in-steps.result.now c.steps.classes.items (c.in-Some.ensures _ _) c.deref-in-steps.ensures.value inv.classes in
+    subst (λ (n : ℕ). v < n) (sym (inv.counts_len ∙ inv.joints_len)) (c.requires.within v ((inv.remains v).0 waits).0).0
+
+pub take_node-requires : goal.take_node-requires
+take_node-requires c =
+    let waits = found_waits c.steps.known.counts.items c.steps.rest c.in-Some.v c.deref-in-steps.result.now c.steps.classes.items (c.in-Some.ensures _ _) c.deref-in-steps.ensures.value c.steps.invariant.classes in
+    (c.requires.within c.in-Some.v ((c.steps.invariant.remains c.in-Some.v).0 waits).0).1
+
+pub remove-requires : goal.remove-requires
+remove-requires c =
+    let waits = found_waits c.steps.known.counts.items c.steps.rest c.in-Some.v c.deref-in-steps.result.now c.steps.classes.items (c.in-Some.ensures _ _) c.deref-in-steps.ensures.value c.steps.invariant.classes in
+    (c.requires.within c.in-Some.v ((c.steps.invariant.remains c.in-Some.v).0 waits).0).1
+
+pub eliminate-requires-clause-states : goal.eliminate-requires-clause-states
+eliminate-requires-clause-states c = c.requires.states
+
+pub eliminate-requires-clause-small : goal.eliminate-requires-clause-small
+eliminate-requires-clause-small c =
+    let waits = found_waits c.steps.known.counts.items c.steps.rest c.in-Some.v c.deref-in-steps.result.now c.steps.classes.items (c.in-Some.ensures _ _) c.deref-in-steps.ensures.value c.steps.invariant.classes in
+    (c.requires.within c.in-Some.v ((c.steps.invariant.remains c.in-Some.v).0 waits).0).1
+
+pub eliminate-requires-clause-len : goal.eliminate-requires-clause-len
+eliminate-requires-clause-len c = c.steps.invariant.counts_len
+
+pub eliminate-requires-clause-here : goal.eliminate-requires-clause-here
+eliminate-requires-clause-here c =
+    let inv = c.steps.invariant in
+    let v : ℕ = c.in-Some.v in
+    let waits = found_waits c.steps.known.counts.items c.steps.rest v c.deref-in-steps.result.now c.steps.classes.items (c.in-Some.ensures _ _) c.deref-in-steps.ensures.value inv.classes in
+    subst (λ (n : ℕ). v < n) (sym inv.joints_len) (c.requires.within v ((inv.remains v).0 waits).0).0
+
+pub eliminate-requires-clause-within : goal.eliminate-requires-clause-within
+eliminate-requires-clause-within c y m =
+    subst (λ (n : ℕ). y < n) (sym c.steps.invariant.joints_len) (c.requires.within y ((c.steps.invariant.remains y).0 ((c.remove.ensures y).0 m).0).0).0
+
+pub eliminate-requires-clause-apart : goal.eliminate-requires-clause-apart
+eliminate-requires-clause-apart c m = ((c.remove.ensures c.in-Some.v).0 m).1 refl
+
+pub overflow_add-live : goal.overflow_add-live
+overflow_add-live c = let a = c.steps.invariant.live in let ok = c.steps.steps.ok in let small = c.steps.steps.small in omega arith
+
+pub add-cells-requires-clause-a : goal.add-cells-requires-clause-a
+add-cells-requires-clause-a c = c.steps.invariant.few
+
+pub add-cells-requires-clause-b : goal.add-cells-requires-clause-b
+add-cells-requires-clause-b c = c.in_ok-made.ensures.few
+
+pub add-work-requires-clause-a : goal.add-work-requires-clause-a
+add-work-requires-clause-a c = c.steps.invariant.little
+
+pub add-work-requires-clause-b : goal.add-work-requires-clause-b
+add-work-requires-clause-b c = c.in_ok-made.ensures.little
+
+pub returns-clause-few : goal.returns-clause-few
+returns-clause-few c = c.steps.invariant.few
+
+pub returns-clause-little : goal.returns-clause-little
+returns-clause-little c = c.steps.invariant.little

@@ -1,4 +1,4 @@
-use Rattle.std.proofs.Common.{◌≡◌, ◌∙◌, ℕ, ◌<◌, ◌≤◌, ◌^◌, List, ◌++◌, map, Option, Some, subst, sym, ap, arith}
+use Rattle.std.proofs.Common.{◌≡◌, ◌∙◌, ℕ, ◌<◌, ◌≤◌, ◌^◌, List, ◌++◌, map, length, Option, Some, subst, sym, ap, arith}
 use Rattle.std.specs.Prelude.{option_to_list}
 use Rattle.node_sets.specs.Sets.{holds, IsIn}
 use Rattle.size_precheck.specs.declared.planners.Family.{Family}
@@ -79,4 +79,87 @@ returns-clause-started c list listed =
           subst (λ (o : Option ℕ). IsGreedyStart nodes states (IsIn c.args.waiting.now) (map (family_test nodes) list ++ map (parents_test nodes) (option_to_list o)) start) (sym w.in_default-utility.is)
           (started_without nodes states c.args.ruled.now c.args.waiting.now c.tables.from inv.within c.in_default.ensures c.requires.planner.states joints counts joined counted c.tables.live c.tables.cells inv.put list listed
           start (ap (λ (k : Known). k.joints.items) w.known-is) (ap (λ (k : Known). k.counts.items) w.known-is) w.live-is w.cells-is)
+    ]
+
+pub list_narrowed-requires-clause-states : goal.list_narrowed-requires-clause-states
+list_narrowed-requires-clause-states c = c.requires.planner.long
+
+pub list_narrowed-requires-clause-len : goal.list_narrowed-requires-clause-len
+list_narrowed-requires-clause-len c = c.requires.planner.counts_len ∙ sym c.requires.planner.joints_len
+
+pub list_narrowed-requires-clause-ruled : goal.list_narrowed-requires-clause-ruled
+list_narrowed-requires-clause-ruled c v m = subst (λ (n : ℕ). v < n) (sym c.requires.planner.all) (c.requires.ruled v m).0
+
+pub list_narrowed-requires-clause-waiting : goal.list_narrowed-requires-clause-waiting
+list_narrowed-requires-clause-waiting c v m = subst (λ (n : ℕ). v < n) (sym c.requires.planner.joints_len) (c.requires.waiting v m)
+
+pub bounds-families-v : goal.bounds-families-v
+bounds-families-v c =
+    let v : ℕ = c.in-Some.v in
+    let within : v < length c.args.planner.now.families.items = subst (λ (n : ℕ). v < n) (sym c.requires.planner.all) (c.requires.ruled v c.in-Some.ensures.inside).0 in
+    subst (λ (fs : List Family). v < length fs) (sym c.as_slice-families.ensures.value) within
+
+pub add-cells-requires-clause-a : goal.add-cells-requires-clause-a
+add-cells-requires-clause-a c = c.tables.invariant.little
+
+pub overflow_add-live : goal.overflow_add-live
+overflow_add-live c = let few = c.tables.invariant.few in let within = c.tables.invariant.within in omega arith
+
+pub overflow_add-from : goal.overflow_add-from
+overflow_add-from c = let l = c.in-Some.ensures.small in omega arith
+
+pub tables-smaller : goal.tables-smaller
+tables-smaller c = let l = c.in-Some.ensures.small in let n = c.in-Some.ensures.not_before in omega arith
+
+pub utility_table-table-requires : goal.utility_table-table-requires
+utility_table-table-requires c = c.requires.known c.in-Some-utility.u c.in-Some-utility.is
+
+pub put_utility-requires-clause-states : goal.put_utility-requires-clause-states
+put_utility-requires-clause-states c = ap (λ (xs : List ℕ). length xs) c.as_slice-states.ensures.value ∙ c.requires.planner.long
+
+pub put_utility-requires-clause-tag : goal.put_utility-requires-clause-tag
+put_utility-requires-clause-tag c =
+    let l = c.requires.known c.in-Some-utility.u c.in-Some-utility.is in
+    let few = c.requires.planner.states.few in
+    let tag = c.utility_table-table.ensures.tag in
+    omega arith
+
+pub put_utility-requires-clause-len : goal.put_utility-requires-clause-len
+put_utility-requires-clause-len c = c.in_ok-known.ensures.counts_len ∙ sym c.in_ok-known.ensures.joints_len
+
+pub put_utility-requires-clause-within : goal.put_utility-requires-clause-within
+put_utility-requires-clause-within c y m = subst (λ (n : ℕ). y < n) (sym (c.in_ok-known.ensures.joints_len ∙ c.requires.planner.joints_len)) (c.requires.waiting y m)
+
+pub count_cells-requires : goal.count_cells-requires
+count_cells-requires c = ap (λ (xs : List ℕ). length xs) c.as_slice-states.ensures.value ∙ c.requires.planner.long
+
+pub add-cells-requires-in-Some-utility-clause-a : goal.add-cells-requires-in-Some-utility-clause-a
+add-cells-requires-in-Some-utility-clause-a c = c.tables.invariant.little
+
+pub overflow_add-live-in-Some-utility : goal.overflow_add-live-in-Some-utility
+overflow_add-live-in-Some-utility c = let few = c.tables.invariant.few in let within = c.tables.invariant.within in omega arith
+
+pub returns-clause-len : goal.returns-clause-len
+returns-clause-len c =
+    let len = c.in_ok-known.ensures.joints_len ∙ c.requires.planner.joints_len in
+    elim c.match-utility.branch [
+      | in-Some-utility w ↦ ap (λ (k : Known). length k.joints.items) w.known-is ∙ w.put_utility.ensures.len ∙ len
+      | in_default-utility w ↦ ap (λ (k : Known). length k.joints.items) w.known-is ∙ len
+    ]
+
+pub returns-clause-counts : goal.returns-clause-counts
+returns-clause-counts c =
+    let len = c.in_ok-known.ensures.counts_len ∙ sym c.in_ok-known.ensures.joints_len in
+    elim c.match-utility.branch [
+      | in-Some-utility w ↦ ap (λ (k : Known). length k.counts.items) w.known-is ∙ w.put_utility.ensures.counts_len ∙ len ∙ sym (ap (λ (k : Known). length k.joints.items) w.known-is ∙ w.put_utility.ensures.len)
+      | in_default-utility w ↦ ap (λ (k : Known). length k.counts.items) w.known-is ∙ len ∙ sym (ap (λ (k : Known). length k.joints.items) w.known-is)
+    ]
+
+pub returns-clause-few : goal.returns-clause-few
+returns-clause-few c =
+    let few = c.tables.invariant.few in
+    let within = c.tables.invariant.within in
+    elim c.match-utility.branch [
+      | in-Some-utility w ↦ let is = w.live-is in omega arith
+      | in_default-utility w ↦ let is = w.live-is in omega arith
     ]
