@@ -123,6 +123,10 @@ chosen_fit nodes order answers is_order h v is =
     rows_found (λ u rows. (length rows ≡ rows_of nodes u) × All (λ r. r.choice < states_of nodes u) rows) answers (λ k e l. ((h.fits k e l).rows, (h.fits k e l).choices)) v (subst (λ list. Contains list v) (sym h.follow) (is_order.complete v is))
 
 -- ---- the worths of nodes
+-- one number more
+pub one_longer : (n : ℕ) (worths more : List ℤ) (x : ℤ) → more ≡ worths ++ x ∷ [] → length worths ≡ n → length more ≡ n + 1
+one_longer n worths more x is len = ap (λ (l : List ℤ). length l) is ∙ length-append worths (x ∷ []) ∙ ap (λ k. k + 1) len
+
 -- what holds of the number of each node so far, and of the next one's
 pub worths-push : (P : ℕ → ℤ → Type 0) (n : ℕ) (worths : List ℤ) (x : ℤ) → length worths ≡ n → ((u : ℕ) → u < n → P u (get_or worths u (pos 0))) → P n x → (u : ℕ) → u < n + 1 → P u (get_or (worths ++ x ∷ []) u (pos 0))
 worths-push P n worths x len so p u l = go (ℕ_discrete u n)

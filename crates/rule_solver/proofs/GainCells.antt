@@ -16,6 +16,10 @@ use Rattle.rule_solver.specs.Reading.{AddsTable, gain_there}
 use Rattle.rule_solver.proofs.TableCells.{StandsAt, DoneTo, slot_cells, length-part, first_stands, next_stands, none_done, one_done}
 use Rattle.rule_solver.proofs.WorldRows.{world_in_range, row_below}
 
+-- what is added is the number itself
+pub sum_set : {after : List ℤ} {x y : ℤ} (now : List ℤ) (at factor : ℕ) → after ≡ set now at (get_or now at (pos 0) +ℤ (x *ℤ pos factor)) → x ≡ y → after ≡ set now at (get_or now at (pos 0) +ℤ (y *ℤ pos factor))
+sum_set now at factor is e = is ∙ ap (λ z. set now at (get_or now at (pos 0) +ℤ (z *ℤ pos factor))) e
+
 -- a gain with the table's cell added
 abbrev pub gain_with : {C : Type 0} → Ring C → (C → ℤ) → List NodeView → ℕ → List C → Slot → ℕ → List ℤ → World → ℤ
 gain_with r number nodes d cells slot factor before q = gain_there before nodes d q +ℤ (number ((table_of r nodes cells slot).cell q) *ℤ pos factor)

@@ -22,6 +22,7 @@ mod Members
 mod Missing
 mod Orders
 mod PlanLemmas
+mod PlanRuns
 mod ProductLemmas
 mod Promises
 pub mod Rooms

@@ -1,5 +1,5 @@
 -- A table's cells written as a decision's masses.
-use Rattle.std.proofs.Common.{◌≡◌, ◌↔◌, ℕ, ◌+◌, ◌*◌, ◌%◌, ◌<◌, ◌≤◌, List, length, get_or, set, sym, ap, subst, ℤ, arith}
+use Rattle.std.proofs.Common.{◌≡◌, ◌∙◌, ◌↔◌, ℕ, ◌+◌, ◌*◌, ◌%◌, ◌<◌, ◌≤◌, List, length, get_or, set, sym, ap, subst, ℤ, arith}
 use Rattle.std.specs.Prelude.{Contains, nat_abs}
 use Rattle.cell_rings.specs.Rings.{Ring}
 use Rattle.cell_rings.specs.Sums.{cell_at}
@@ -15,6 +15,10 @@ use Rattle.maid_model.specs.Worlds.{IsWorld, world_of, first_world}
 use Rattle.rule_solver.specs.Reading.{PutsMasses}
 use Rattle.rule_solver.proofs.TableCells.{StandsAt, DoneTo, slot_rows, length-part, first_stands, next_stands, none_done, one_done}
 use Rattle.rule_solver.proofs.WorldRows.{world_in_range, row_below}
+
+-- the mass is made of the number itself
+pub mass_made : {mass : ℕ} {x y : ℤ} (factor : ℕ) → mass ≡ nat_abs x * factor → x ≡ y → mass ≡ nat_abs y * factor
+mass_made factor is e = is ∙ ap (λ z. nat_abs z * factor) e
 
 -- the mass that the number in the table's cell makes
 abbrev pub mass_of_cell : {C : Type 0} → Ring C → (C → ℤ) → List NodeView → List C → Slot → ℕ → World → ℕ

@@ -32,6 +32,14 @@ rows_behind count (u ∷ us) v = ap (λ k. count u * k) (rows_behind count us v)
     regroup : (a b c : ℕ) → a * (b * c) ≡ a * b * c
     regroup a b c = omega arith
 
+-- a list that was found to be the parents and then the node is so
+pub found_own : {taken items parents : List ℕ} (listed own : List ℕ) (d : ℕ) → taken ≡ items → items ≡ listed → taken ≡ parents ++ d ∷ [] → parents ≡ own → listed ≡ own ++ d ∷ []
+found_own listed own d a b c e = sym (a ∙ b) ∙ c ∙ ap (λ us. us ++ d ∷ []) e
+
+-- and one that was found to be the parents
+pub found_same : {taken items parents : List ℕ} (listed own : List ℕ) → taken ≡ items → items ≡ listed → taken ≡ parents → parents ≡ own → listed ≡ own
+found_same listed own a b c e = sym (a ∙ b) ∙ c ∙ e
+
 -- ---- the gains before a place have something added, and the others are as they were
 pub record AddedTo (f : ℕ → ℤ) (before now : List ℤ) (at : ℕ) : Type 0 where
   pub len : length now ≡ length before
@@ -81,8 +89,11 @@ module _ {C : Type 0} (r : Ring C) (number : C → ℤ) (nodes : List NodeView) 
     place_is : (q : World) → row_from (states_of nodes) q 0 us ≡ cell_of nodes d q
     place_is q = ap (row_from (states_of nodes) q 0) own ∙ row_behind (states_of nodes) q 0 (parents_of nodes d) d
 
-    pub own_count : length (part cells slot.start slot.len) ≡ rows_of nodes d * states_of nodes d
+    own_count : length (part cells slot.start slot.len) ≡ rows_of nodes d * states_of nodes d
     own_count = length-part nodes cells slot live ∙ ap (rows_under (states_of nodes)) own ∙ rows_behind (states_of nodes) (parents_of nodes d) d
+
+    pub own_len : (items : List C) (gains : List ℤ) → items ≡ part cells slot.start slot.len → length gains ≡ rows_of nodes d * states_of nodes d → length items ≡ length gains
+    own_len items gains is count = ap (λ (l : List C). length l) is ∙ own_count ∙ sym count
 
     pub own_room : (before : List ℤ) → ((q : World) → InRange (states_of nodes) q → nat_abs (gain_there before nodes d q) + nat_abs (value q *ℤ pos factor) ≤ greatest_number)
         → (i : ℕ) → i < rows_of nodes d * states_of nodes d → nat_abs (get_or before i (pos 0)) + nat_abs (number (cell_at r (part cells slot.start slot.len) i) *ℤ pos factor) ≤ greatest_number
@@ -111,8 +122,11 @@ module _ {C : Type 0} (r : Ring C) (number : C → ℤ) (nodes : List NodeView) 
     row_is : (q : World) → row_from (states_of nodes) q 0 us ≡ row_of nodes d q
     row_is q = ap (row_from (states_of nodes) q 0) same
 
-    pub row_count : length (part cells slot.start slot.len) ≡ rows_of nodes d
+    row_count : length (part cells slot.start slot.len) ≡ rows_of nodes d
     row_count = length-part nodes cells slot live ∙ ap (rows_under (states_of nodes)) same
+
+    pub row_len : (items : List C) (masses : List ℕ) → items ≡ part cells slot.start slot.len → length masses ≡ rows_of nodes d → length items ≡ length masses
+    row_len items masses is count = ap (λ (l : List C). length l) is ∙ row_count ∙ sym count
 
     pub row_room : ((q : World) → InRange (states_of nodes) q → nat_abs (value q) * factor ≤ greatest_number)
         → (i : ℕ) → i < rows_of nodes d → nat_abs (number (cell_at r (part cells slot.start slot.len) i)) * factor ≤ greatest_number

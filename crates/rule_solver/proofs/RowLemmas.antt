@@ -1,8 +1,9 @@
 -- Rows of a table of gains, and answered rows.
-use Rattle.std.proofs.Common.{◌≡◌, ◌∙◌, ℕ, ◌+◌, ◌*◌, ◌<◌, List, [], ◌∷◌, ◌++◌, length, IfSome, get_or, sym, ap, subst, ℤ, ◌≤ℤ◌, ◌<ℤ◌, arith, length-append}
+use Rattle.std.proofs.Common.{◌≡◌, ◌∙◌, ℕ, ◌+◌, ◌*◌, ◌<◌, ◌≤◌, List, [], ◌∷◌, ◌++◌, length, IfSome, get_or, sym, ap, subst, ℤ, ◌≤ℤ◌, ◌<ℤ◌, arith, length-append}
 use Rattle.std.proofs.lemmas.List.{get_or_append_left}
 use Rattle.std.proofs.Math.Seq.{get_or-append_seam}
 use Rattle.std.proofs.lemmas.List.Elements.{All-push}
+use Rattle.std.proofs.Math.Nat.{mul-le-mul_left}
 use Rattle.std.proofs.Math.Decide.{ℕ_discrete}
 use Rattle.maid_model.specs.declared.answers.Row.{Row}
 use Rattle.maid_model.specs.Answers.{IsFraction, IsReduced, no_row}
@@ -43,3 +44,10 @@ answers-push gain mass states scale number rows r a h inside reduced = record {
     go row k (no n) =
         let l : row < length rows = subst (λ i. row < i) (sym a.count) (smaller row k n) in
         subst (λ x. AnswersRow (λ s. gain s row) states (mass row) scale x) (sym (get_or_append_left rows (r ∷ []) no_row row l)) (a.each row (smaller row k n))
+
+-- a row ends within the table
+pub row_end : (row rows states : ℕ) → row < rows → row * states + states ≤ rows * states
+row_end row rows states h = let most = mul-le-mul_left states (next h) in omega (arith, most)
+  where
+    next : row < rows → row + 1 ≤ rows
+    next h = omega (arith, h)

@@ -1,4 +1,4 @@
-use Rattle.std.proofs.Common.{rules, arith, ◌≡◌, [], ◌<◌, length, ◌∙◌, ◌+◌, Contains, refl, sym, subst, take, slice_index}
+use Rattle.std.proofs.Common.{rules, arith, ◌≡◌, [], ◌<◌, length, ◌∙◌, ◌+◌, Contains, refl, sym, subst, take, slice_index, ℕ, List}
 use Rattle.maid_model.specs.Answers.{IsBase, pure_profile}
 use Rattle.maid_model.specs.Graph.{AllDifferent}
 use Rattle.rule_solver.specs.Answered.{AnswersAll}
@@ -10,6 +10,7 @@ use Rattle.rule_solver.proofs.GoalPlans.{zip_at}
 use Rattle.rule_solver.proofs.AnswerLemmas.{answers-none, answers-push-all}
 use Rattle.rule_solver.proofs.BaseTurns.{mixed_more, mixed_start}
 use Rattle.rule_solver.proofs.Orders.{first_differ, placed_decision, relied_before}
+use Rattle.std.proofs.lemmas.List.{take_all}
 use Rattle.rule_solver.proofs.answering.answer_all.Goals as goal
 
 -- a decision of the order relies on answered decisions alone
@@ -30,7 +31,7 @@ turn_base-requires c =
 pub loop-place-init : goal.loop-place-init
 loop-place-init c =
     let nodes = c.args.diagram.now.nodes in
-    let none : c.in_ok-answers.answers.items ≡ [] = search rules in (
+    let none : c.in_ok-answers.answers.items ≡ [] = c.in_ok-answers.ensures.items in (
       subst (AnswersAll nodes c.args.diagram.now.decimals (take 0 c.args.order.now)) (sym none) (answers-none nodes c.args.diagram.now.decimals c.args.order.now),
       refl,
       subst (λ l. IsMixed nodes l c.empty-held.result c.in_ok-base.base) (sym none) (mixed_start nodes c.empty-held.result c.in_ok-base.base c.in_ok-base.ensures.rules c.in_ok-base.ensures.profile c.empty-held.ensures),
@@ -82,3 +83,17 @@ answer_decision-requires-clause-planned c =
     let here = c.loop-place-test.true in
     subst (λ p. ArePlansOf nodes (slice_index order c.loop-place.place) p.rows p.goals.items) (sym c.index-plans-place.is)
     (zip_at (λ d p. ArePlansOf nodes d p.rows p.goals.items) order plans c.loop-place.place 0 c.index-plans-place.result c.requires.planned (omega (arith, here, long)))
+
+pub answer_decision-requires-clause-decision : goal.answer_decision-requires-clause-decision
+answer_decision-requires-clause-decision c =
+    placed_decision c.args.diagram.now.nodes c.args.order.now c.requires.order c.loop-place.place c.loop-place-test.true
+
+pub answer_decision-requires-clause-bound : goal.answer_decision-requires-clause-bound
+answer_decision-requires-clause-bound c = c.requires.bound
+
+pub returns-clause-answers : goal.returns-clause-answers
+returns-clause-answers c =
+    subst (λ (l : List ℕ). AnswersAll c.args.diagram.now.nodes c.args.diagram.now.decimals l c.loop-place.answers.items) (take_all c.loop-place.place c.args.order.now c.loop-place-test.false) c.loop-place.invariant.0
+
+pub returns-clause-again : goal.returns-clause-again
+returns-clause-again c = c.loop-place.invariant.1

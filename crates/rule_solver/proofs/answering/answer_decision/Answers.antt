@@ -1,7 +1,7 @@
 -- The part of the scope decides as the whole does.
-use Rattle.std.proofs.Common.{◌≡◌, ◌*◌, ◌<◌, ◌≤◌, nat_abs, pos, slice_index_or, ◌^◌, ℕ, ℤ, List, length, slice_index, subst, sym, IfOk}
+use Rattle.std.proofs.Common.{◌≡◌, ◌*◌, ◌<◌, ◌≤◌, nat_abs, pos, slice_index_or, ◌^◌, ℕ, ℤ, List, length, slice_index, subst, sym, IfOk, ◌∙◌, ap}
 use Rattle.std.proofs.lemmas.Result.{IfOk-weaker}
-use Rattle.maid_model.specs.Nodes.{states_of}
+use Rattle.maid_model.specs.Nodes.{rows_of, states_of}
 use Rattle.maid_model.specs.Diagrams.{greatest_number}
 use Rattle.maid_model.specs.Scopes.{goals_of, greatest_of, scope_of, scope_product}
 use Rattle.maid_model.specs.Gains.{gain_in}
@@ -11,6 +11,7 @@ use Rattle.rule_solver.specs.Rows.{AnswersRows}
 use Rattle.rule_solver.specs.Sums.{IsRowSums}
 use Rattle.rule_solver.proofs.DecisionLemmas.{answered_by}
 use Rattle.rule_solver.proofs.PlanLemmas.{values_bound, within_bound}
+use Rattle.rule_solver.specs.Totals.{HasTotals}
 use Rattle.rule_solver.proofs.answering.answer_decision.Goals as goal
 
 pub returns-clause-rows : goal.returns-clause-rows
@@ -50,3 +51,36 @@ answer_rows-requires-clause-small c i h =
     values_bound (scope_product d.nodes c.args.decision) (10 ^ d.decimals) (greatest_of d.nodes (goals_of d.nodes c.args.decision)) (nat_abs (slice_index_or c.in_ok-sums.sums.gains.items i (pos 0)))
     (c.in_ok-sums.ensures.room.gain i (subst (λ (l : List ℤ). i < length l) gains h)) (c.requires.bound.decisions c.args.decision c.requires.decision) in
     subst (λ (l : List ℤ). nat_abs (slice_index_or l i (pos 0)) ≤ greatest_number) (sym gains) within
+
+pub states-states-requires : goal.states-states-requires
+states-states-requires c = c.requires.decision.within
+
+pub row_sums-requires-clause-setting : goal.row_sums-requires-clause-setting
+row_sums-requires-clause-setting c =
+    record {
+      is_diagram = c.in_ok-totals.ensures.diagram;
+      is_decision = c.requires.decision;
+      profile = c.requires.profile;
+      rules = c.requires.rules;
+      bound = c.requires.bound.decisions c.args.decision c.requires.decision;
+      has_totals = subst (HasTotals c.args.diagram.now.nodes c.args.base.now) (sym c.deref.ensures.value) c.in_ok-totals.ensures.totals;
+      is_scope = c.decision_scope.ensures;
+    }
+
+pub row_sums-requires-clause-planned : goal.row_sums-requires-clause-planned
+row_sums-requires-clause-planned c = c.requires.planned
+
+pub row_sums-requires-clause-ready : goal.row_sums-requires-clause-ready
+row_sums-requires-clause-ready c = c.requires.ready
+
+pub answer_rows-requires-clause-all : goal.answer_rows-requires-clause-all
+answer_rows-requires-clause-all c =
+    let masses : length c.deref-3.result.now ≡ rows_of c.args.diagram.now.nodes c.args.decision = ap (λ (l : List ℕ). length l) c.deref-3.ensures.value ∙ c.in_ok-sums.ensures.sums.mass_count in
+    ap (λ (l : List ℤ). length l) c.deref-2.ensures.value ∙ c.in_ok-sums.ensures.sums.gain_count ∙ (λ i. sym masses i * sym c.states-states.ensures.states i)
+
+pub answer_rows-requires-clause-some : goal.answer_rows-requires-clause-some
+answer_rows-requires-clause-some c =
+    subst (λ n. 0 < n) (sym c.states-states.ensures.states) (c.states-states.ensures.diagram.graph.has_state c.args.decision)
+
+pub answer_rows-requires-clause-scale : goal.answer_rows-requires-clause-scale
+answer_rows-requires-clause-scale c = c.scale.ensures.some

@@ -1,7 +1,10 @@
-use Rattle.std.proofs.Common.{◌≡◌, ◌∙◌, map, slice_index, sym, subst, ap}
+use Rattle.std.proofs.Common.{◌≡◌, ◌∙◌, map, slice_index, sym, subst, ap, arith, true, false}
 use Rattle.maid_model.specs.Views.{AnswerView}
 use Rattle.rule_solver.specs.Bases.{Turns}
-use Rattle.rule_solver.proofs.BaseTurns.{decided_at, turns_stay}
+use Rattle.rule_solver.proofs.BaseTurns.{decided_at, turns_stay, turns_in, turns_out}
+use Rattle.std.proofs.lemmas.Result.{on_ok_weaker}
+use Rattle.maid_model.specs.Answers.{FitsAnswer}
+use Rattle.maid_model.specs.Nodes.{IsDecision}
 use Rattle.rule_solver.proofs.bases.turn_one.Goals as goal
 
 -- the decision has the rule that it needs
@@ -15,3 +18,55 @@ returns c =
       turns = subst (λ v. Turns v c.args.relied c.args.held.now c.args.held.now) (sym there)
           (turns_stay c.answer.inside.decision c.args.relied c.args.held.now (sym c.holds-holds.ensures ∙ c.if-holds-2.false ∙ sym c.if-relied.false));
     }
+
+pub holds-holds-requires : goal.holds-holds-requires
+holds-holds-requires c =
+    let fits : FitsAnswer c.args.diagram.now.nodes c.index-answers-place.result = subst (FitsAnswer c.args.diagram.now.nodes) (sym c.index-answers-place.is) (c.requires.fits c.args.place c.index-answers-place.result c.requires.place) in
+    let decided : c.answer.inside.decision ≡ c.index-answers-place.result.decision = ap (λ (x : AnswerView). x.decision) c.answer.view_is in
+    let here = (subst (IsDecision c.args.diagram.now.nodes) (sym decided) fits.decision).within in
+    omega (arith, here, c.count-count.ensures.diagram.limits.nodes)
+
+pub returns-then-holds-clause-mixed : goal.returns-then-holds-clause-mixed
+returns-then-holds-clause-mixed c = c.requires.mixed
+
+pub returns-then-holds-clause-turns : goal.returns-then-holds-clause-turns
+returns-then-holds-clause-turns c =
+    let there : slice_index (map (λ (x : AnswerView). x.decision) c.args.answers.now) c.args.place ≡ c.answer.inside.decision = decided_at c.args.answers.now c.args.place c.index-answers-place.result c.requires.place (sym c.index-answers-place.is) ∙ sym (ap (λ (x : AnswerView). x.decision) c.answer.view_is) in
+    subst (λ v. Turns v c.args.relied c.args.held.now c.args.held.now) (sym there) (turns_stay c.answer.inside.decision c.args.relied c.args.held.now (sym c.holds-holds.ensures ∙ c.if-holds.true ∙ sym c.if-relied.true))
+
+pub hold_answered-requires-clause-fits : goal.hold_answered-requires-clause-fits
+hold_answered-requires-clause-fits c = c.requires.fits
+
+pub hold_answered-requires-clause-once : goal.hold_answered-requires-clause-once
+hold_answered-requires-clause-once c = c.requires.once
+
+pub hold_answered-requires-clause-place : goal.hold_answered-requires-clause-place
+hold_answered-requires-clause-place c = c.requires.place
+
+pub hold_answered-requires-clause-mixed : goal.hold_answered-requires-clause-mixed
+hold_answered-requires-clause-mixed c = c.requires.mixed
+
+pub returns-then-relied-clause-mixed : goal.returns-then-relied-clause-mixed
+returns-then-relied-clause-mixed c = c.hold_answered.ensures.mixed
+
+pub returns-then-relied-clause-turns : goal.returns-then-relied-clause-turns
+returns-then-relied-clause-turns c =
+    let v = slice_index (map (λ (x : AnswerView). x.decision) c.args.answers.now) c.args.place in
+    on_ok_weaker _ (λ h. subst (λ b. Turns v b c.args.held.now c.hold_answered.new.held) (sym c.if-relied.true) (turns_in v c.args.held.now c.hold_answered.new.held h)) c.hold_answered.ensures.holds
+
+pub hold_uniform-requires-clause-decision : goal.hold_uniform-requires-clause-decision
+hold_uniform-requires-clause-decision c =
+    let fits : FitsAnswer c.args.diagram.now.nodes c.index-answers-place.result = subst (FitsAnswer c.args.diagram.now.nodes) (sym c.index-answers-place.is) (c.requires.fits c.args.place c.index-answers-place.result c.requires.place) in
+    let decided : c.answer.inside.decision ≡ c.index-answers-place.result.decision = ap (λ (x : AnswerView). x.decision) c.answer.view_is in
+    subst (IsDecision c.args.diagram.now.nodes) (sym decided) fits.decision
+
+pub hold_uniform-requires-clause-mixed : goal.hold_uniform-requires-clause-mixed
+hold_uniform-requires-clause-mixed c = c.requires.mixed
+
+pub returns-then-holds-2-clause-mixed : goal.returns-then-holds-2-clause-mixed
+returns-then-holds-2-clause-mixed c = c.hold_uniform.ensures.mixed
+
+pub returns-then-holds-2-clause-turns : goal.returns-then-holds-2-clause-turns
+returns-then-holds-2-clause-turns c =
+    let there : slice_index (map (λ (x : AnswerView). x.decision) c.args.answers.now) c.args.place ≡ c.answer.inside.decision = decided_at c.args.answers.now c.args.place c.index-answers-place.result c.requires.place (sym c.index-answers-place.is) ∙ sym (ap (λ (x : AnswerView). x.decision) c.answer.view_is) in
+    on_ok_weaker _ (λ h. subst (λ v. Turns v c.args.relied c.args.held.now c.hold_uniform.new.held) (sym there) (subst (λ b. Turns c.answer.inside.decision b c.args.held.now c.hold_uniform.new.held) (sym c.if-relied.false) (turns_out c.answer.inside.decision c.args.held.now c.hold_uniform.new.held h))) c.hold_uniform.ensures.holds

@@ -19,7 +19,7 @@ returns c =
     let least = c.reduce_small-size.result.0 in
     let rest = c.reduce_small-size.result.1 in
     let fits_num : FitsSigned w128 c.args.num = c.ranges.num in
-    let fits : FitsSigned w128 c.with_sign.result = search rules in
+    let fits : FitsSigned w128 c.with_sign.result = record { sfits = c.with_sign.type_inv } in
     let size = simp to_z-of_z at c.unsigned_abs-size.ensures.value in
     let sign = simp to_z-of_z at c.with_sign.ensures in
     simp to_z-of_z (signed_is c.args.num c.args.den least rest (c.reduce_small-size.ensures.same ∙ ap (λ z. z * rest) size) c.reduce_small-size.ensures.positive c.reduce_small-size.ensures.coprime c.with_sign.result sign)

@@ -1,5 +1,5 @@
 -- Some of the goals, and then some of the others.
-use Rattle.std.proofs.Common.{◌≡◌, ◌∙◌, ℕ, ◌*◌, ◌≤◌, ◌-◌, ◌<◌, Contains, List, length, take, drop, sym, ap, subst, arith, nat_abs, length-drop}
+use Rattle.std.proofs.Common.{◌≡◌, ◌∙◌, ℕ, ◌*◌, ◌≤◌, ◌-◌, ◌<◌, Contains, List, length, take, drop, sym, ap, subst, arith, nat_abs, length-drop, refl}
 use Rattle.finite_sums.specs.Members.{Among}
 use Rattle.finite_sums.specs.Sums.{World, InRange}
 use Rattle.finite_sums.proofs.Members.{contains_from_among}
@@ -8,6 +8,7 @@ use Rattle.maid_model.specs.Gains.{greatest_abs}
 use Rattle.maid_model.specs.Nodes.{node_at, states_of}
 use Rattle.maid_model.specs.Relevance.{IsGoal}
 use Rattle.maid_model.specs.Scopes.{goals_of, scope_product}
+use Rattle.rule_solver.specs.Rooms.{IsEmptyWithin}
 use Rattle.rule_solver.specs.Sums.{AddsGoals, HasGoals, HasRoomForGoals, goal_part}
 use Rattle.size_precheck.specs.Sizes.{SizedPlan}
 use Rattle.rule_solver.proofs.GoalPlans.{goal_plans_long}
@@ -73,3 +74,48 @@ parts-preserved c =
       c.in_ok-added.ensures.again ∙ c.parts.invariant.2,
       c.add_first.ensures.len ∙ c.parts.invariant.3,
     )
+
+pub returns-then-goals-lt2-clause-gains : goal.returns-then-goals-lt2-clause-gains
+returns-then-goals-lt2-clause-gains c = c.requires.none
+
+pub returns-then-goals-lt2-clause-again : goal.returns-then-goals-lt2-clause-again
+returns-then-goals-lt2-clause-again c = refl
+
+pub returns-then-goals-lt2-clause-len : goal.returns-then-goals-lt2-clause-len
+returns-then-goals-lt2-clause-len c = refl
+
+pub returns-then-not-may_share-clause-gains : goal.returns-then-not-may_share-clause-gains
+returns-then-not-may_share-clause-gains c = c.requires.none
+
+pub returns-then-not-may_share-clause-again : goal.returns-then-not-may_share-clause-again
+returns-then-not-may_share-clause-again c = refl
+
+pub returns-then-not-may_share-clause-len : goal.returns-then-not-may_share-clause-len
+returns-then-not-may_share-clause-len c = refl
+
+pub new-requires-clause-setting : goal.new-requires-clause-setting
+new-requires-clause-setting c = c.requires.setting
+
+pub new-requires-clause-goals : goal.new-requires-clause-goals
+new-requires-clause-goals c = c.requires.goals
+
+pub new-requires-clause-some : goal.new-requires-clause-some
+new-requires-clause-some c = omega (arith, c.if-goals-lt2.false)
+
+pub new-requires-clause-planned : goal.new-requires-clause-planned
+new-requires-clause-planned c = c.requires.planned
+
+pub behind-rest-requires : goal.behind-rest-requires
+behind-rest-requires c = c.parts.invariant.0
+
+pub add_first-requires-clause-setting : goal.add_first-requires-clause-setting
+add_first-requires-clause-setting c = c.requires.setting
+
+pub add_first-requires-clause-joint : goal.add_first-requires-clause-joint
+add_first-requires-clause-joint c = c.in_ok-joint.ensures
+
+pub add_first-requires-clause-ready : goal.add_first-requires-clause-ready
+add_first-requires-clause-ready c = subst (IsEmptyWithin c.args.cells) (sym c.parts.invariant.2) c.requires.ready
+
+pub returns-in_err-added-clause-len : goal.returns-in_err-added-clause-len
+returns-in_err-added-clause-len c = c.add_first.ensures.len ∙ c.parts.invariant.3

@@ -1,4 +1,4 @@
-use Rattle.std.proofs.Common.{◌≡◌, ◌+◌, ◌++◌, ◌∷◌, [], None, subst, sym, rules}
+use Rattle.std.proofs.Common.{◌≡◌, ◌+◌, ◌++◌, ◌∷◌, [], None, subst, sym}
 use Rattle.maid_model.specs.Gains.{gain_in}
 use Rattle.rule_solver.specs.Optima.{ChoosesRows}
 use Rattle.rule_solver.proofs.ChoiceLemmas.{chosen-push}
@@ -6,6 +6,15 @@ use Rattle.rule_solver.proofs.optima.choose_rows.Goals as goal
 
 pub loop-row-preserved : goal.loop-row-preserved
 loop-row-preserved c =
-    let more : c.push.new.self.items ≡ c.loop-row.chosen.items ++ record { choice = c.choice_at-choice.result; worth = None } ∷ [] = search rules in
+    let more : c.push.new.self.items ≡ c.loop-row.chosen.items ++ record { choice = c.choice_at-choice.result; worth = None } ∷ [] = c.in_ok-push.ensures.items in
     subst (λ rows. ChoosesRows (gain_in c.args.gains.now c.args.states) c.args.states (c.loop-row.row + 1) rows) (sym more)
     (chosen-push (gain_in c.args.gains.now c.args.states) c.args.states c.loop-row.row c.loop-row.chosen.items (record { choice = c.choice_at-choice.result; worth = None }) c.loop-row.invariant c.choice_at-choice.ensures.best c.choice_at-choice.ensures.within tt)
+
+pub choice_at-choice-requires-clause-all : goal.choice_at-choice-requires-clause-all
+choice_at-choice-requires-clause-all c = c.requires.all
+
+pub choice_at-choice-requires-clause-some : goal.choice_at-choice-requires-clause-some
+choice_at-choice-requires-clause-some c = c.requires.some
+
+pub choice_at-choice-requires-clause-row : goal.choice_at-choice-requires-clause-row
+choice_at-choice-requires-clause-row c = c.loop-row-test.true

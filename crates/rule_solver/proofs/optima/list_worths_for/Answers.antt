@@ -1,12 +1,16 @@
 use Rattle.std.proofs.Common.{◌≡◌, ◌⊎◌, ◌∙◌, ◌<◌, ◌+◌, ◌++◌, ◌∷◌, ℕ, ℤ, List, pos, rules, arith, ap, false, get_or, inl, inr, length, sym, subst, true, []}
+use Rattle.std.specs.Global.{Vec}
+use Rattle.std.specs.Int.{w128}
+use Rattle.std.proofs.lemmas.Int.{to_z-of_z}
 use Rattle.maid_model.specs.declared.diagrams.Kind.{Kind}
 use Rattle.maid_model.specs.declared.diagrams.Kind.TheVariants.{Chance, Decision, Utility}
 use Rattle.maid_model.specs.Nodes.{IsOwnedBy, is_utility, node_at}
 use Rattle.plan_sums.specs.Plans.{worth_plan}
 use Rattle.size_precheck.specs.Sizes.{IsPlanned}
 use Rattle.rule_solver.specs.Worths.{IsWorth}
-use Rattle.rule_solver.proofs.ChoiceLemmas.{worths-push}
+use Rattle.rule_solver.proofs.ChoiceLemmas.{one_longer, worths-push}
 use Rattle.rule_solver.proofs.WorthLemmas.{utilities_more, worth_place}
+use Rattle.rule_solver.specs.Rooms.{IsEmptyWithin}
 use Rattle.rule_solver.proofs.optima.list_worths_for.Goals as goal
 use Rattle.rule_solver.proofs.optima.list_worths_for.Goals.{In-Utility, in-Utility+in_ok-push-in-Utility, in-Chance+in_ok-push-in-Chance}
 
@@ -44,19 +48,55 @@ loop-v-preserved c =
     let P : ℕ → ℤ → Type 0 = (λ u z. (node_at nodes u).kind ≡ Utility → IsOwnedBy nodes u c.args.agent → IsWorth nodes c.args.profile.now u z) in
     elim c.match-kind.branch [
       | in-Utility+in_ok-push-in-Utility w ↦
-          let more : c.match-kind.worths.items ≡ c.loop-v.worths.items ++ w.worth_for-worth.result ∷ [] = search rules in (
-            search rules,
+          let more : c.match-kind.worths.items ≡ c.loop-v.worths.items ++ w.worth_for-worth.result ∷ [] =
+          ap (λ (v : Vec ℤ). v.items) w.worths-is ∙ w.in_ok-push-in-Utility.ensures.items ∙ ap (λ z. c.loop-v.worths.items ++ z ∷ []) (to_z-of_z w128 w.worth_for-worth.result (record { sfits = w.worth_for-worth.type_inv })) in (
+            one_longer c.loop-v.v c.loop-v.worths.items c.match-kind.worths.items w.worth_for-worth.result more c.loop-v.invariant.0,
             subst (λ (l : List ℤ). (u : ℕ) → u < c.loop-v.v + 1 → P u (get_or l u (pos 0))) (sym more) (worths-push P c.loop-v.v c.loop-v.worths.items w.worth_for-worth.result c.loop-v.invariant.0 c.loop-v.invariant.1 (λ k own. w.worth_for-worth.ensures.worth own)),
             w.place-is ∙ ap (λ n. n + 1) c.loop-v.invariant.2 ∙ sym (utilities_more nodes c.loop-v.v true (ap is_utility (sym c.kind.ensures.kind ∙ w.in-Utility.is))),
-            search rules,
-            search rules,
+            w.small-is ∙ w.worth_for-worth.ensures.again.0 ∙ c.loop-v.invariant.3,
+            w.wide-is ∙ w.worth_for-worth.ensures.again.1 ∙ c.loop-v.invariant.4,
           )
       | in-Chance+in_ok-push-in-Chance w ↦
-          let more : c.match-kind.worths.items ≡ c.loop-v.worths.items ++ pos 0 ∷ [] = search rules in (
-            search rules,
+          let more : c.match-kind.worths.items ≡ c.loop-v.worths.items ++ pos 0 ∷ [] = ap (λ (v : Vec ℤ). v.items) w.worths-is ∙ w.in_ok-push-in-Chance.ensures.items in (
+            one_longer c.loop-v.v c.loop-v.worths.items c.match-kind.worths.items (pos 0) more c.loop-v.invariant.0,
             subst (λ (l : List ℤ). (u : ℕ) → u < c.loop-v.v + 1 → P u (get_or l u (pos 0))) (sym more) (worths-push P c.loop-v.v c.loop-v.worths.items (pos 0) c.loop-v.invariant.0 c.loop-v.invariant.1 (λ k own. absurd (no_utility w.in-Chance.is (c.kind.ensures.kind ∙ k)))),
             w.place-is ∙ c.loop-v.invariant.2 ∙ sym (utilities_more nodes c.loop-v.v false (elim w.in-Chance.is [ inl e ↦ ap is_utility (sym c.kind.ensures.kind ∙ e) | inr e ↦ ap is_utility (sym c.kind.ensures.kind ∙ e) ]) ∙ omega arith),
-            search rules,
-            search rules,
+            w.small-is ∙ c.loop-v.invariant.3,
+            w.wide-is ∙ c.loop-v.invariant.4,
           )
     ]
+
+pub kind-requires : goal.kind-requires
+kind-requires c = subst (λ n. c.loop-v.v < n) c.count-v-end.ensures.count c.loop-v-test.true
+
+pub worth_for-worth-requires-clause-diagram : goal.worth_for-worth-requires-clause-diagram
+worth_for-worth-requires-clause-diagram c = c.kind.ensures.diagram
+
+pub worth_for-worth-requires-clause-within : goal.worth_for-worth-requires-clause-within
+worth_for-worth-requires-clause-within c = subst (λ n. c.loop-v.v < n) c.count-v-end.ensures.count c.loop-v-test.true
+
+pub worth_for-worth-requires-clause-kind : goal.worth_for-worth-requires-clause-kind
+worth_for-worth-requires-clause-kind c = sym c.kind.ensures.kind ∙ c.in-Utility.is
+
+pub worth_for-worth-requires-clause-profile : goal.worth_for-worth-requires-clause-profile
+worth_for-worth-requires-clause-profile c = c.requires.profile
+
+pub worth_for-worth-requires-clause-rules : goal.worth_for-worth-requires-clause-rules
+worth_for-worth-requires-clause-rules c = c.requires.rules
+
+pub worth_for-worth-requires-clause-bound : goal.worth_for-worth-requires-clause-bound
+worth_for-worth-requires-clause-bound c = c.requires.bound
+
+pub worth_for-worth-requires-clause-totals : goal.worth_for-worth-requires-clause-totals
+worth_for-worth-requires-clause-totals c = c.requires.totals
+
+pub worth_for-worth-requires-clause-ready : goal.worth_for-worth-requires-clause-ready
+worth_for-worth-requires-clause-ready c = (
+  c.requires.ready.0,
+  subst (λ work. IsEmptyWithin c.requires.ready.0 work) (sym c.loop-v.invariant.3) c.requires.ready.1,
+  subst (λ work. IsEmptyWithin c.requires.ready.0 work) (sym c.loop-v.invariant.4) c.requires.ready.2,
+  c.requires.ready.3 c.loop-v.v (subst (λ n. c.loop-v.v < n) c.count-v-end.ensures.count c.loop-v-test.true) (sym c.kind.ensures.kind ∙ c.in-Utility.is),
+)
+
+pub returns-clause-again : goal.returns-clause-again
+returns-clause-again c = (c.loop-v.invariant.3, c.loop-v.invariant.4)

@@ -1,9 +1,11 @@
-use Rattle.std.proofs.Common.{◌≡◌, ◌∙◌, sym, subst, ap}
+use Rattle.std.proofs.Common.{◌≡◌, ◌∙◌, sym, subst, ap, arith}
 use Rattle.maid_model.specs.Answers.{FitsAnswers, pure_profile}
 use Rattle.rule_solver.specs.declared.spaces.Workspaces.{Workspaces}
 use Rattle.rule_solver.specs.Rooms.{AreReady}
 use Rattle.rule_solver.proofs.ChoiceLemmas.{chosen_fit, is_optimum}
 use Rattle.rule_solver.proofs.MadeRooms.{more_rooms}
+use Rattle.size_precheck.specs.Decisions.{ArePlans}
+use Rattle.size_precheck.specs.Sizes.{ArePlansOfWorths}
 use Rattle.rule_solver.proofs.optima.optimum_along.Goals as goal
 
 pub expected_for-requires-clause-profile : goal.expected_for-requires-clause-profile
@@ -35,3 +37,27 @@ returns-clause-optimum c =
     let is = c.count-count.ensures.diagram in
     let pure : c.in_ok-profile.profile ≡ pure_profile d.nodes c.in_ok-answers.answers.items = c.in_ok-profile.ensures.rules ∙ ap (pure_profile d.nodes) c.deref-2.ensures.value in
     is_optimum d c.args.agent c.in_ok-profile.profile c.args.order.now c.in_ok-answers.answers.items c.in_ok-optimum.optimum is.graph is.tables c.answers_are_best.ensures.choices c.exchange.ensures.law c.one_agent.ensures.law c.requires.alone pure c.requires.order c.in_ok-answers.ensures.answers c.in_ok-optimum.ensures.worth
+
+pub overflow_cast-cells : goal.overflow_cast-cells
+overflow_cast-cells c = omega (arith, c.requires.limit)
+
+pub choose_all-requires-clause-bound : goal.choose_all-requires-clause-bound
+choose_all-requires-clause-bound c = c.requires.bound
+
+pub choose_all-requires-clause-relevance : goal.choose_all-requires-clause-relevance
+choose_all-requires-clause-relevance c = c.requires.relevance
+
+pub choose_all-requires-clause-order : goal.choose_all-requires-clause-order
+choose_all-requires-clause-order c = c.requires.order
+
+pub choose_all-requires-clause-planned : goal.choose_all-requires-clause-planned
+choose_all-requires-clause-planned c = subst (ArePlans c.args.diagram.now.nodes c.args.order.now) (sym c.deref.ensures.value) c.requires.plans
+
+pub expected_for-requires-clause-agent : goal.expected_for-requires-clause-agent
+expected_for-requires-clause-agent c = c.requires.within
+
+pub expected_for-requires-clause-bound : goal.expected_for-requires-clause-bound
+expected_for-requires-clause-bound c = c.requires.bound
+
+pub expected_for-requires-clause-planned : goal.expected_for-requires-clause-planned
+expected_for-requires-clause-planned c = subst (ArePlansOfWorths c.args.diagram.now.nodes) (sym c.deref-3.ensures.value) c.requires.worths

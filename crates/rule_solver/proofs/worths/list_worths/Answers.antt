@@ -1,8 +1,16 @@
-use Rattle.std.proofs.Common.{◌∙◌, ◌<◌, ◌+◌, rules, arith, ap, false, get_or, inl, inr, length, sym, subst, true, []}
-use Rattle.maid_model.specs.Nodes.{is_utility}
+use Rattle.std.proofs.Common.{◌≡◌, ◌⊎◌, ◌++◌, ◌∷◌, ℕ, ℤ, List, pos, ◌∙◌, ◌<◌, ◌+◌, rules, arith, ap, false, get_or, inl, inr, length, sym, subst, true, []}
+use Rattle.std.specs.Global.{Vec}
+use Rattle.std.specs.Int.{w128}
+use Rattle.std.proofs.lemmas.Int.{to_z-of_z}
+use Rattle.maid_model.specs.declared.diagrams.Kind.{Kind}
+use Rattle.maid_model.specs.declared.diagrams.Kind.TheVariants.{Chance, Decision, Utility}
+use Rattle.maid_model.specs.Nodes.{is_utility, node_at}
 use Rattle.plan_sums.specs.Plans.{worth_plan}
 use Rattle.size_precheck.specs.Sizes.{IsPlanned}
+use Rattle.rule_solver.specs.Worths.{IsWorth}
+use Rattle.rule_solver.proofs.ChoiceLemmas.{one_longer, worths-push}
 use Rattle.rule_solver.proofs.WorthLemmas.{utilities_more, worth_place}
+use Rattle.rule_solver.specs.Rooms.{IsEmptyWithin}
 use Rattle.rule_solver.proofs.worths.list_worths.Goals as goal
 use Rattle.rule_solver.proofs.worths.list_worths.Goals.{In-Utility, in-Utility+in_ok-push-in-Utility, in-Chance+in_ok-push-in-Chance}
 
@@ -30,22 +38,65 @@ overflow_add-place c =
     let l : c.loop-v.place < length c.args.plans.now = subst (λ n. n < length c.args.plans.now) (sym c.loop-v.invariant.2) (worth_place nodes c.loop-v.v c.args.plans.now c.index-plans-place.result within (sym c.kind.ensures.kind ∙ c.in-Utility.is) c.requires.planned).0 in
     search rules
 
+no_utility : {k : Kind} → k ≡ Chance ⊎ k ≡ Decision → k ≡ Utility → ⊥
+no_utility (inl e) f = cc
+no_utility (inr e) f = cc
+
 pub loop-v-preserved : goal.loop-v-preserved
 loop-v-preserved c =
     let nodes = c.args.diagram.now.nodes in
+    let P : ℕ → ℤ → Type 0 = (λ u z. (node_at nodes u).kind ≡ Utility → IsWorth nodes c.args.profile.now u z) in
     elim c.match-kind.branch [
-      | in-Utility+in_ok-push-in-Utility w ↦ (
-        search rules,
-        search rules,
-        w.place-is ∙ ap (λ n. n + 1) c.loop-v.invariant.2 ∙ sym (utilities_more nodes c.loop-v.v true (ap is_utility (sym c.kind.ensures.kind ∙ w.in-Utility.is))),
-        search rules,
-        search rules,
-      )
-      | in-Chance+in_ok-push-in-Chance w ↦ (
-        search rules,
-        search rules,
-        w.place-is ∙ c.loop-v.invariant.2 ∙ sym (utilities_more nodes c.loop-v.v false (elim w.in-Chance.is [ inl e ↦ ap is_utility (sym c.kind.ensures.kind ∙ e) | inr e ↦ ap is_utility (sym c.kind.ensures.kind ∙ e) ]) ∙ omega arith),
-        search rules,
-        search rules,
-      )
+      | in-Utility+in_ok-push-in-Utility w ↦
+          let more : c.match-kind.worths.items ≡ c.loop-v.worths.items ++ w.worth.result ∷ [] =
+          ap (λ (v : Vec ℤ). v.items) w.worths-is ∙ w.in_ok-push-in-Utility.ensures.items ∙ ap (λ z. c.loop-v.worths.items ++ z ∷ []) (to_z-of_z w128 w.worth.result (record { sfits = w.worth.type_inv })) in (
+            one_longer c.loop-v.v c.loop-v.worths.items c.match-kind.worths.items w.worth.result more c.loop-v.invariant.0,
+            subst (λ (l : List ℤ). (u : ℕ) → u < c.loop-v.v + 1 → P u (get_or l u (pos 0))) (sym more) (worths-push P c.loop-v.v c.loop-v.worths.items w.worth.result c.loop-v.invariant.0 c.loop-v.invariant.1 (λ k. w.worth.ensures.worth)),
+            w.place-is ∙ ap (λ n. n + 1) c.loop-v.invariant.2 ∙ sym (utilities_more nodes c.loop-v.v true (ap is_utility (sym c.kind.ensures.kind ∙ w.in-Utility.is))),
+            w.small-is ∙ w.worth.ensures.again.0 ∙ c.loop-v.invariant.3,
+            w.wide-is ∙ w.worth.ensures.again.1 ∙ c.loop-v.invariant.4,
+          )
+      | in-Chance+in_ok-push-in-Chance w ↦
+          let more : c.match-kind.worths.items ≡ c.loop-v.worths.items ++ pos 0 ∷ [] = ap (λ (v : Vec ℤ). v.items) w.worths-is ∙ w.in_ok-push-in-Chance.ensures.items in (
+            one_longer c.loop-v.v c.loop-v.worths.items c.match-kind.worths.items (pos 0) more c.loop-v.invariant.0,
+            subst (λ (l : List ℤ). (u : ℕ) → u < c.loop-v.v + 1 → P u (get_or l u (pos 0))) (sym more) (worths-push P c.loop-v.v c.loop-v.worths.items (pos 0) c.loop-v.invariant.0 c.loop-v.invariant.1 (λ k. absurd (no_utility w.in-Chance.is (c.kind.ensures.kind ∙ k)))),
+            w.place-is ∙ c.loop-v.invariant.2 ∙ sym (utilities_more nodes c.loop-v.v false (elim w.in-Chance.is [ inl e ↦ ap is_utility (sym c.kind.ensures.kind ∙ e) | inr e ↦ ap is_utility (sym c.kind.ensures.kind ∙ e) ]) ∙ omega arith),
+            w.small-is ∙ c.loop-v.invariant.3,
+            w.wide-is ∙ c.loop-v.invariant.4,
+          )
     ]
+
+pub kind-requires : goal.kind-requires
+kind-requires c = subst (λ n. c.loop-v.v < n) c.count-v-end.ensures.count c.loop-v-test.true
+
+pub worth-requires-clause-diagram : goal.worth-requires-clause-diagram
+worth-requires-clause-diagram c = c.kind.ensures.diagram
+
+pub worth-requires-clause-within : goal.worth-requires-clause-within
+worth-requires-clause-within c = subst (λ n. c.loop-v.v < n) c.count-v-end.ensures.count c.loop-v-test.true
+
+pub worth-requires-clause-kind : goal.worth-requires-clause-kind
+worth-requires-clause-kind c = sym c.kind.ensures.kind ∙ c.in-Utility.is
+
+pub worth-requires-clause-profile : goal.worth-requires-clause-profile
+worth-requires-clause-profile c = c.requires.profile
+
+pub worth-requires-clause-rules : goal.worth-requires-clause-rules
+worth-requires-clause-rules c = c.requires.rules
+
+pub worth-requires-clause-bound : goal.worth-requires-clause-bound
+worth-requires-clause-bound c = c.requires.bound
+
+pub worth-requires-clause-totals : goal.worth-requires-clause-totals
+worth-requires-clause-totals c = c.requires.totals
+
+pub worth-requires-clause-ready : goal.worth-requires-clause-ready
+worth-requires-clause-ready c = (
+  c.requires.ready.0,
+  subst (λ work. IsEmptyWithin c.requires.ready.0 work) (sym c.loop-v.invariant.3) c.requires.ready.1,
+  subst (λ work. IsEmptyWithin c.requires.ready.0 work) (sym c.loop-v.invariant.4) c.requires.ready.2,
+  c.requires.ready.3 c.loop-v.v (subst (λ n. c.loop-v.v < n) c.count-v-end.ensures.count c.loop-v-test.true) (sym c.kind.ensures.kind ∙ c.in-Utility.is),
+)
+
+pub returns-clause-again : goal.returns-clause-again
+returns-clause-again c = (c.loop-v.invariant.3, c.loop-v.invariant.4)

@@ -1,6 +1,6 @@
 -- The goals that are not summed together, one after another.
 use Rattle.std.proofs.Common.{rules, ◌∙◌, inl, inr, ℕ, ◌*◌, ◌<◌, ◌≤◌, List, [], ◌∷◌, length, take, drop, slice_index, sym, subst, arith, nat_abs}
-use Rattle.std.proofs.lemmas.List.{take_more}
+use Rattle.std.proofs.lemmas.List.{take_more, take_all}
 use Rattle.finite_sums.specs.Members.{Among}
 use Rattle.finite_sums.specs.Sums.{World, InRange}
 use Rattle.maid_model.specs.Gains.{greatest_abs}
@@ -83,3 +83,44 @@ loop-place-preserved c =
       (λ i. record { small = c.in_ok-add_goal.ensures.again.0 i; wide = c.in_ok-add_goal.ensures.again.1 i; pairs = c.loop-place.spaces.pairs; cells = c.loop-place.spaces.cells; pair_cells = c.loop-place.spaces.pair_cells }) ∙ c.loop-place.invariant.1,
       c.add_goal.ensures.len ∙ c.loop-place.invariant.2,
     )
+
+pub add_together-requires-clause-setting : goal.add_together-requires-clause-setting
+add_together-requires-clause-setting c = c.requires.setting
+
+pub add_together-requires-clause-goals : goal.add_together-requires-clause-goals
+add_together-requires-clause-goals c = c.requires.goals
+
+pub add_together-requires-clause-planned : goal.add_together-requires-clause-planned
+add_together-requires-clause-planned c = c.requires.planned
+
+pub add_together-requires-clause-ready : goal.add_together-requires-clause-ready
+add_together-requires-clause-ready c = c.requires.ready.1.pairs
+
+pub add_together-requires-clause-none : goal.add_together-requires-clause-none
+add_together-requires-clause-none c = c.requires.none
+
+pub loop-place-init : goal.loop-place-init
+loop-place-init c =
+    (c.in_ok-added.ensures.gains, (λ i. record { small = c.args.spaces.now.small; wide = c.args.spaces.now.wide; pairs = c.in_ok-added.ensures.again i; cells = c.args.spaces.now.cells; pair_cells = c.args.spaces.now.pair_cells }), c.add_together.ensures.len)
+
+pub bounds-goals-place : goal.bounds-goals-place
+bounds-goals-place c = c.loop-place-test.true
+
+pub add_goal-requires-clause-setting : goal.add_goal-requires-clause-setting
+add_goal-requires-clause-setting c = c.requires.setting
+
+pub returns-in_err-added-clause-len : goal.returns-in_err-added-clause-len
+returns-in_err-added-clause-len c = c.add_together.ensures.len
+
+pub returns-in_err-add_goal-clause-len : goal.returns-in_err-add_goal-clause-len
+returns-in_err-add_goal-clause-len c = c.add_goal.ensures.len ∙ c.loop-place.invariant.2
+
+pub returns-clause-gains : goal.returns-clause-gains
+returns-clause-gains c =
+    subst (λ (l : List ℕ). HasGoals c.args.self.now.diagram.now.nodes c.args.self.now.base.now c.args.self.now.decision l c.loop-place.gains) (take_all c.loop-place.place c.args.goals.now c.loop-place-test.false) c.loop-place.invariant.0
+
+pub returns-clause-again : goal.returns-clause-again
+returns-clause-again c = c.loop-place.invariant.1
+
+pub returns-clause-len : goal.returns-clause-len
+returns-clause-len c = c.loop-place.invariant.2

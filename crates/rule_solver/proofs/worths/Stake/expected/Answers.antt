@@ -1,4 +1,4 @@
-use Rattle.std.proofs.Common.{◌≡◌, ◌∙◌, ◌≤◌, ◌<◌, ◌*◌, ◌^◌, sym, subst, arith, rules, FitsSigned}
+use Rattle.std.proofs.Common.{◌≡◌, ◌∙◌, ◌≤◌, ◌<◌, ◌*◌, ◌^◌, sym, subst, arith, FitsSigned}
 use Rattle.std.specs.Int.{w128}
 use Rattle.std.proofs.lemmas.Int.{to_z-of_z}
 use Rattle.std.proofs.Math.Nat.{mul-pos}
@@ -28,7 +28,7 @@ fraction-requires-clause-den c =
 pub returns : goal.returns
 returns c =
     let s = c.args.self.now in
-    let fits : FitsSigned w128 c.gain.result = search rules in
+    let fits : FitsSigned w128 c.gain.result = record { sfits = c.gain.type_inv } in
     let den : c.product_in-mass.result * c.scale.result ≡ product_in s.totals.now s.scope * 10 ^ s.diagram.now.decimals = (λ i. c.product_in-mass.ensures i * c.scale.ensures.scale i) in
     whole_fraction s.diagram.now s.profile.now s.agent s.totals.now s.worths.now s.scope c.requires.stake c.plans_sum_scopes.ensures.mass c.scopes_are_parts.ensures.agents c.parts_decide.ensures.worths c.fraction.result
     (subst (λ n. IsFraction c.fraction.result n (product_in s.totals.now s.scope * 10 ^ s.diagram.now.decimals)) (to_z-of_z w128 c.gain.result fits ∙ c.gain.ensures.gain)

@@ -1,4 +1,4 @@
-use Rattle.std.proofs.Common.{◌≡◌, ◌∙◌, ◌≤◌, ◌+◌, ◌+ℤ◌, nat_abs, sym, subst, ap, arith, rules, length, FitsSigned, to_z, of_z}
+use Rattle.std.proofs.Common.{◌≡◌, ◌∙◌, ◌≤◌, ◌+◌, ◌+ℤ◌, nat_abs, sym, subst, ap, arith, length, FitsSigned, to_z, of_z}
 use Rattle.std.specs.Int.{w128}
 use Rattle.std.specs.List.{range_with_len}
 use Rattle.std.proofs.lemmas.Int.{to_z-of_z}
@@ -14,7 +14,7 @@ next : (c : After-given_by-gain) → to_z w128 c.loop-v.gain-bits +ℤ to_z w128
     ≡ sum_each (share_for c.args.self.now.diagram.now.nodes c.args.self.now.profile.now c.args.self.now.agent c.args.self.now.worths.now) (range_with_len 0 (c.loop-v.v + 1))
 next c =
     let s = c.args.self.now in
-    let fits : FitsSigned w128 c.given_by-gain.result = search rules in
+    let fits : FitsSigned w128 c.given_by-gain.result = record { sfits = c.given_by-gain.type_inv } in
     sum_next (share_for s.diagram.now.nodes s.profile.now s.agent s.worths.now) c.loop-v.v (to_z w128 c.loop-v.gain-bits) c.given_by-gain.result c.loop-v.invariant fits c.given_by-gain.ensures
 
 next_fits : (c : After-given_by-gain) → FitsSigned w128 (to_z w128 c.loop-v.gain-bits +ℤ to_z w128 (of_z w128 c.given_by-gain.result))
