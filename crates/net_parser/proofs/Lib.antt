@@ -1,4 +1,5 @@
 pub mod Telling
+pub mod Stopped
 pub mod Moves
 pub mod Places
 pub mod Refusals

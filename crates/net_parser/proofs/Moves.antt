@@ -38,7 +38,7 @@ when : (test : Bool) (symbols : List Symbol) (a b : List Lexeme) → Onward (if 
 when true symbols a b h = (refl, h)
 when false symbols a b h = absurd h
 
-named : (potential : Bool) (l : Lexeme) (a : List Lexeme) → l.token.kind ≡ kinds.Word → may_name potential l.bytes ≡ true → AttributeName potential l.token (l ∷ a) a
+pub named : (potential : Bool) (l : Lexeme) (a : List Lexeme) → l.token.kind ≡ kinds.Word → may_name potential l.bytes ≡ true → AttributeName potential l.token (l ∷ a) a
 named false l a kind e = ((record { kind = kind; unsigned = (may_name-true false l.bytes e).0 }, refl), refl)
 named true l a kind e =
     let t = may_name-true true l.bytes e in

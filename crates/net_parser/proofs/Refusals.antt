@@ -1,5 +1,5 @@
 -- Why a token may not stand in a place, told by what may stand there.
-use Rattle.std.proofs.Common.{◌≡◌, ℕ, Bool, true, false, ◌||◌, List, [], ◌∷◌, ◌++◌, ◌⊎◌, inl, inr, refl, ap, bytes_eq}
+use Rattle.std.proofs.Common.{◌≡◌, ℕ, Bool, true, false, ◌||◌, List, [], ◌∷◌, ◌++◌, ◌⊎◌, inl, inr, refl, ap, subst, bytes_eq}
 use Rattle.std.specs.Prelude.{codes, Some, None, if◌then◌else◌}
 use Rattle.std.specs.Option.{option_map}
 use Rattle.std.proofs.lemmas.Bool.{false_from_ne_true}
@@ -59,30 +59,45 @@ block_unsupported kind bytes e = cc
 others_stand : (potential : Bool) (l : Lexeme) → IsName l → (IsModelName l → ⊥) → may_name true l.bytes ≡ true
 others_stand potential l is other = may_name-other l.bytes is.unsigned (false_from_ne_true _ (λ yes. other (is_model_name-true l is.kind yes)))
 
+-- the kind of the tokens that the symbol's place refuses for a reason of their own
+abbrev own_kind : Symbol → TokenKind
+own_kind (value depth) = kinds.ParenOpen
+own_kind (values depth) = kinds.ParenOpen
+own_kind symbol = kinds.Word
+
+own_reason : (symbol : Symbol) (kind : TokenKind) (bytes : List ℕ) → (refusal_at symbol kind bytes ≡ Unexpected) ⊎ (kind ≡ own_kind symbol)
+own_reason node_word kinds.Word bytes = inr refl
+own_reason (attribute_name true) kinds.Word bytes = inr refl
+own_reason (attributes true) kinds.Word bytes = inr refl
+own_reason (value depth) kinds.ParenOpen bytes = inr refl
+own_reason (values depth) kinds.ParenOpen bytes = inr refl
+own_reason symbol kind bytes = inl refl
+
 -- an unsupported token
-symbol_unsupported : (symbol : Symbol) (kind : TokenKind) (after : List Symbol) (l : Lexeme) → l.token.kind ≡ kind → refusal_at symbol kind l.bytes ≡ Unsupported → Function (within (symbol ∷ after)) l ⊎ Model (within (symbol ∷ after)) l
-symbol_unsupported node_word kinds.Word after l is e = inl (record {
+symbol_unsupported : (symbol : Symbol) (after : List Symbol) (l : Lexeme) → l.token.kind ≡ own_kind symbol → refusal_at symbol (own_kind symbol) l.bytes ≡ Unsupported → Function (within (symbol ∷ after)) l ⊎ Model (within (symbol ∷ after)) l
+symbol_unsupported node_word after l is e = inl (record {
   node = lexeme kinds.Word (codes "node");
   is = record { kind = refl; bytes = refl };
   stands = (after, refl);
   word = record { kind = is; bytes = word_is _ _ (when_true _ e) };
 })
-symbol_unsupported (attribute_name true) kinds.Word after l is e = inr (record {
+symbol_unsupported (attribute_name true) after l is e = inr (record {
   others = λ other name free. (after, rw (name.kind, others_stand true other name free) refl);
   word = is_model_name-true l is (when_true _ e);
 })
-symbol_unsupported (attributes true) kinds.Word after l is e = inr (record {
+symbol_unsupported (attributes true) after l is e = inr (record {
   others = λ other name free. (mark kinds.Equals ∷ value 32 ∷ mark kinds.Semicolon ∷ attributes true ∷ after, rw (name.kind, others_stand true other name free) refl);
   word = is_model_name-true l is (when_true _ e);
 })
-symbol_unsupported (value depth) kinds.ParenOpen after l is e = cc
-symbol_unsupported (values depth) kinds.ParenOpen after l is e = cc
-symbol_unsupported symbol kind after l is e = cc
+symbol_unsupported symbol after l is e = cc
 
 pub unsupported : (place : Place) (l : Lexeme) → refusal place l ≡ Unsupported → Foreign place l ⊎ Function place l ⊎ Model place l
 unsupported start l e = let t = block_unsupported l.token.kind l.bytes e in inl (record { whole = ([], refl); word = foreign_word l t.0 t.1 })
 unsupported (within []) l e = let t = block_unsupported l.token.kind l.bytes e in inl (record { whole = ([], refl); word = foreign_word l t.0 t.1 })
-unsupported (within (symbol ∷ after)) l e = inr (symbol_unsupported symbol l.token.kind after l refl e)
+unsupported (within (symbol ∷ after)) l e = inr (elim (own_reason symbol l.token.kind l.bytes) [
+  | inl other ↦ cc
+  | inr own ↦ symbol_unsupported symbol after l own (subst (λ kind. refusal_at symbol kind l.bytes ≡ Unsupported) own e)
+])
 
 leaf_next : (depth : ℕ) (kind : TokenKind) (bytes : List ℕ) → is_leaf kind ≡ true → (next (value depth) kind bytes ≡ Some []) × (next (values depth) kind bytes ≡ Some (values depth ∷ []))
 leaf_next depth kinds.Word bytes e = (refl, refl)
@@ -98,25 +113,28 @@ block_shallow : (kind : TokenKind) (bytes : List ℕ) → block_refusal kind byt
 block_shallow kinds.Word bytes e = shallow (is_foreign bytes) e
 block_shallow kind bytes e = cc
 
-symbol_deep : (symbol : Symbol) (kind : TokenKind) (after : List Symbol) (l : Lexeme) → l.token.kind ≡ kind → refusal_at symbol kind l.bytes ≡ TooDeep → Deep (within (symbol ∷ after)) l
-symbol_deep (value depth) kinds.ParenOpen after l is e = record {
+symbol_deep : (symbol : Symbol) (after : List Symbol) (l : Lexeme) → l.token.kind ≡ own_kind symbol → refusal_at symbol (own_kind symbol) l.bytes ≡ TooDeep → Deep (within (symbol ∷ after)) l
+symbol_deep (value depth) after l is e = record {
   leaves = λ leaf kind. (after, ap (option_map (λ symbols. symbols ++ after)) (leaf_next depth leaf.token.kind leaf.bytes kind).0);
   mark = is;
 }
-symbol_deep (values depth) kinds.ParenOpen after l is e = record {
+symbol_deep (values depth) after l is e = record {
   leaves = λ leaf kind. (values depth ∷ after, ap (option_map (λ symbols. symbols ++ after)) (leaf_next depth leaf.token.kind leaf.bytes kind).1);
   mark = is;
 }
-symbol_deep node_word kinds.Word after l is e = absurd (shallow _ e)
-symbol_deep (attribute_name true) kinds.Word after l is e = absurd (shallow _ e)
-symbol_deep (attributes true) kinds.Word after l is e = absurd (shallow _ e)
-symbol_deep symbol kind after l is e = cc
+symbol_deep node_word after l is e = absurd (shallow _ e)
+symbol_deep (attribute_name true) after l is e = absurd (shallow _ e)
+symbol_deep (attributes true) after l is e = absurd (shallow _ e)
+symbol_deep symbol after l is e = cc
 
 -- a list too deep
 pub deep : (place : Place) (l : Lexeme) → refusal place l ≡ TooDeep → Deep place l
 deep start l e = absurd (block_shallow l.token.kind l.bytes e)
 deep (within []) l e = absurd (block_shallow l.token.kind l.bytes e)
-deep (within (symbol ∷ after)) l e = symbol_deep symbol l.token.kind after l refl e
+deep (within (symbol ∷ after)) l e = elim (own_reason symbol l.token.kind l.bytes) [
+  | inl other ↦ cc
+  | inr own ↦ symbol_deep symbol after l own (subst (λ kind. refusal_at symbol kind l.bytes ≡ TooDeep) own e)
+]
 
 known : (test : Bool) → (if test then Unsupported else Unexpected) ≡ NoMemory → ⊥
 known true e = cc
@@ -126,19 +144,20 @@ block_known : (kind : TokenKind) (bytes : List ℕ) → block_refusal kind bytes
 block_known kinds.Word bytes e = known (is_foreign bytes) e
 block_known kind bytes e = cc
 
-symbol_known : (symbol : Symbol) (kind : TokenKind) (bytes : List ℕ) → refusal_at symbol kind bytes ≡ NoMemory → ⊥
-symbol_known node_word kinds.Word bytes e = known _ e
-symbol_known (attribute_name true) kinds.Word bytes e = known _ e
-symbol_known (attributes true) kinds.Word bytes e = known _ e
-symbol_known (value depth) kinds.ParenOpen bytes e = cc
-symbol_known (values depth) kinds.ParenOpen bytes e = cc
-symbol_known symbol kind bytes e = cc
+symbol_known : (symbol : Symbol) (bytes : List ℕ) → refusal_at symbol (own_kind symbol) bytes ≡ NoMemory → ⊥
+symbol_known node_word bytes e = known _ e
+symbol_known (attribute_name true) bytes e = known _ e
+symbol_known (attributes true) bytes e = known _ e
+symbol_known symbol bytes e = cc
 
 -- memory has no part in it
 pub known_refusal : (place : Place) (l : Lexeme) → refusal place l ≡ NoMemory → ⊥
 known_refusal start l e = block_known l.token.kind l.bytes e
 known_refusal (within []) l e = block_known l.token.kind l.bytes e
-known_refusal (within (symbol ∷ after)) l e = symbol_known symbol l.token.kind l.bytes e
+known_refusal (within (symbol ∷ after)) l e = elim (own_reason symbol l.token.kind l.bytes) [
+  | inl other ↦ cc
+  | inr own ↦ symbol_known symbol l.bytes (subst (λ kind. refusal_at symbol kind l.bytes ≡ NoMemory) own e)
+]
 
 -- an unexpected token is none of these
 foreign_block : (first : Bool) (l : Lexeme) → IsForeignWord l → block_refusal l.token.kind l.bytes ≡ Unexpected → ⊥

@@ -1,3 +1,4 @@
+pub mod Asked
 pub mod Parents
 pub mod Rows
 pub mod OneCut

@@ -23,3 +23,4 @@ pub mod Unique
 pub mod Value
 pub mod Weighing
 pub mod Written
+pub mod Appending
