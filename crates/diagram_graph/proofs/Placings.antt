@@ -1,11 +1,13 @@
 -- Placing by marks, one item more at a time.
-use Rattle.std.proofs.Common.{◌≡◌, ℕ, ◌<◌, Bool, true, false, List, [], ◌∷◌, ◌++◌, length, take, get_or, ◌↔◌, inl, inr, subst, sym, ◌∙◌, arith}
+use Rattle.std.proofs.Common.{refl, ◌≡◌, ℕ, ◌<◌, Bool, true, false, List, [], ◌∷◌, ◌++◌, length, take, get_or, ◌↔◌, inl, inr, subst, sym, ◌∙◌, arith, zero, suc, replicate, ap, cond}
 use Rattle.std.specs.Prelude.{Contains}
 use Rattle.std.proofs.lemmas.Bool.{cases_lt, cases_eq, true_from_ne_false, both_ways}
 use Rattle.std.proofs.lemmas.List.{get_or_read, get_or_past, take-append-le, get_or_append_left, take_at, get_or_at, length_push, get_or-set_same, get_or-set_other}
 use Rattle.std.proofs.lemmas.List.Elements.{Contains-push, Contains-push_cases, Contains-append_left}
 use Rattle.std.specs.Prelude.{set}
 use Rattle.maid_model.specs.Placing.{IsLeast, Remains, CanPlace, IsPlacing}
+use Rattle.std.specs.Prelude.{count_by, not}
+use Rattle.std.proofs.lemmas.List.Sums.{sum_by-set}
 use Rattle.diagram_graph.specs.Needs.{IsMarkedIn, NeedsItem}
 use Rattle.diagram_graph.specs.Free.{IsFree, IsReady}
 
@@ -56,3 +58,22 @@ in_unless_free items placed e i n = true_from_ne_false (get_or placed e false) (
 -- what a read of a mark says
 pub read_mark : (xs : List Bool) (i : ℕ) (x : Bool) → i < length xs → x ≡ get_or xs i x → get_or xs i false ≡ x
 read_mark xs i x l e = sym (get_or_read xs i x l e false)
+
+-- nothing is marked at first
+pub none_marked : (n v : ℕ) → IsMarkedIn (replicate n false) v → ⊥
+none_marked zero v h = cc
+none_marked (suc n) zero h = cc
+none_marked (suc n) (suc v) h = none_marked n v h
+
+-- a mark leaves fewer without one
+abbrev no_mark : Bool → ℕ
+no_mark b = cond (not b) 1 0
+
+pub fewer_unmarked : (xs : List Bool) (i : ℕ) → i < length xs → get_or xs i false ≡ false → count_by not (set xs i true) < count_by not xs
+fewer_unmarked xs i l h =
+    let one : no_mark (get_or xs i false) ≡ 1 = ap no_mark h in
+    omega (arith, sum_by-set no_mark xs i true false l, one)
+
+pub unmarked : (b : Bool) → (b ≡ true → ⊥) → b ≡ false
+unmarked false n = refl
+unmarked true n = absurd (n refl)

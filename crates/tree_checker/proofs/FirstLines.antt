@@ -7,7 +7,7 @@ use Rattle.std.specs.Prelude.{sum_by}
 use Rattle.maid_model.specs.declared.answers.Ratio.{Ratio}
 use Rattle.maid_model.specs.declared.answers.Row.{Row}
 use Rattle.maid_model.specs.Accepted.{IsAccepted, IsAcceptedAt, IsReliedFirst}
-use Rattle.maid_model.specs.Answers.{FitsDiagram, IsExpectedUtility, answered, answer_at, rows_at}
+use Rattle.maid_model.specs.Answers.{FitsAnswer, FitsDiagram, IsExpectedUtility, answered, answer_at, rows_at}
 use Rattle.maid_model.specs.Diagrams.{IsDiagram}
 use Rattle.maid_model.specs.Nodes.{IsDecision, rows_of}
 use Rattle.maid_model.specs.Views.{AnswerView, RuleView, DiagramView, SolvedView}
@@ -168,6 +168,12 @@ looked_at d solved f items place a e l h = record {
   within = subst (λ n. place < n) (ap length e ∙ counts d solved f) l;
   here = sym (h ∙ ap (λ xs. get_or xs place a) e);
 }
+
+-- what it answers fits its decision
+pub answer_fits : (d : DiagramView) (solved : SolvedView) → FitsDiagram d solved → (place : ℕ) (a : AnswerView) (v : ℕ) (rows : List Row) → IsLookedAt solved place a → v ≡ a.decision → rows ≡ a.rows → FitsAnswer d.nodes (record { decision = v; rows = rows })
+answer_fits d solved f place a v rows at e r =
+    subst (FitsAnswer d.nodes) (λ i. record { decision = sym e i; rows = sym r i })
+    (subst (FitsAnswer d.nodes) at.here (f.answers place a (subst (λ n. place < n) (sym (counts d solved f)) at.within)))
 
 -- the same judgement of the same rows
 pub judged_like : (d : DiagramView) (s t : List RuleView) (v w : ℕ) (rows qs : List Row) (o q : Option RowFault) → s ≡ t → v ≡ w → rows ≡ qs → o ≡ q → JudgesAnswer d s v rows o → JudgesAnswer d t w qs q

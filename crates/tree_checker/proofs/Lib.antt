@@ -1,5 +1,7 @@
 mod ProductSteps
 mod Listed
+mod Grown
+mod SmallSums
 mod FractionTold
 mod OrderSteps
 mod BaseSteps

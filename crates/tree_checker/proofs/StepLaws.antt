@@ -103,6 +103,22 @@ module _ (d : DiagramView) (is : IsDiagram d) (node : ℕ) (inside : node < leng
         go : (a x y z r k : ℕ) → a + x ≤ y → y ≡ z → z ≤ r → 0 < k → r * k ≤ 65536 → a ≤ 65536
         go a x y z r k h e j l m = omega (arith, mul-le-mul_left r l)
 
+    -- to the next parent, which is v or another
+    pub step_same : (t : ℕ) → get_or us i 0 ≡ v → t ≡ step * c + 1 → RowSoFar d.nodes node (one_at v) t us (i + 1)
+    step_same t e is = record {
+      parents = s.parents;
+      rest = ap (λ k. row_from (states_of d.nodes) (one_at v) k (drop (i + 1) us)) (is ∙ ap (λ b. step * c + cond b 1 0) (sym (eqb_yes (get_or us i 0) v e))) ∙ next;
+    }
+
+    pub step_other : (t : ℕ) → (get_or us i 0 ≡ v → ⊥) → t ≡ step * c → RowSoFar d.nodes node (one_at v) t us (i + 1)
+    step_other t n is = record {
+      parents = s.parents;
+      rest = ap (λ k. row_from (states_of d.nodes) (one_at v) k (drop (i + 1) us)) (is ∙ none (step * c) ∙ ap (λ b. step * c + cond b 1 0) (sym (eqb_no (get_or us i 0) v n))) ∙ next;
+    }
+      where
+        none : (k : ℕ) → k ≡ k + 0
+        none k = omega arith
+
   drop_past : (us : List ℕ) (i : ℕ) → length us ≤ i → drop i us ≡ []
   drop_past [] zero h = refl
   drop_past [] (suc i) h = refl
@@ -110,5 +126,8 @@ module _ (d : DiagramView) (is : IsDiagram d) (node : ℕ) (inside : node < leng
   drop_past (u ∷ us) (suc i) h = drop_past us i (omega arith)
 
   -- after the last parent
+  pub step_end : (step i : ℕ) (us : List ℕ) → RowSoFar d.nodes node (one_at v) step us i → length us ≤ i → step ≡ row_step d.nodes node v
+  step_end step i us s h = ap (row_from (states_of d.nodes) (one_at v) step) (sym (drop_past us i h)) ∙ s.rest
+
   pub step_whole : (step i : ℕ) (us : List ℕ) → RowSoFar d.nodes node (one_at v) step us i → length us ≤ i → step ≤ rows_of d.nodes node
-  step_whole step i us s h = subst (λ k. k ≤ rows_of d.nodes node) (sym (ap (row_from (states_of d.nodes) (one_at v) step) (sym (drop_past us i h)) ∙ s.rest)) step_within
+  step_whole step i us s h = subst (λ k. k ≤ rows_of d.nodes node) (sym (step_end step i us s h)) step_within

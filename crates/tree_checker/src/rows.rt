@@ -24,7 +24,7 @@ use std::alloc::{AllocError, Global};
 use whole_num::reduce;
 
 /// The first row of a decision that fails, counted from 0, and why it does.
-#[derive(Clone, Copy, Debug, PartialEq, Eq)]
+#[derive(Clone, Copy)]
 pub(crate) struct RowFault {
     pub row: usize,
     pub cause: Cause,

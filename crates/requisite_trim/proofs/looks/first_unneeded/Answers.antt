@@ -1,4 +1,5 @@
-use Rattle.std.proofs.Common.{ℕ, get_or, arith}
+use Rattle.std.proofs.Common.{◌∙◌, ℕ, get_or, sym, arith}
+use Rattle.std.proofs.lemmas.Bool.{false≢true}
 use Rattle.std.proofs.lemmas.List.Elements.{Contains-get_or}
 use Rattle.maid_model.specs.Relevance.{IsRequisite}
 use Rattle.requisite_trim.proofs.Looking.{below_more, first_at, all_seen}
@@ -7,20 +8,20 @@ use Rattle.requisite_trim.proofs.looks.first_unneeded.Goals as goal
 pub reached-requires : goal.reached-requires
 reached-requires c =
     let l = c.parents-parent-items.ensures.known _ (Contains-get_or _ _ 0 c.loop-parent-test.true) in
-    let m = c.parents-parent-items.ensures.diagram.limits.nodes in omega arith
+    let m = c.parents-parent-items.ensures.diagram.limits.nodes in omega (arith, l, m)
 
 pub returns-then-not-reached : goal.returns-then-not-reached
 returns-then-not-reached c =
     let items = c.parents-parent-items.result.now in
     let tells = c.search_from_goals-marks.ensures (get_or items c.loop-parent.parent-index 0) (c.parents-parent-items.ensures.known _ (Contains-get_or _ _ 0 c.loop-parent-test.true)) in
     first_at c.args.diagram.now.nodes c.args.decision items c.parents-parent-items.ensures.parents c.loop-parent.parent-index c.loop-parent-test.true
-    (λ r. let t = c.reached.ensures.1 (tells.1 r) in let f = c.if-not-reached.true in cc) c.loop-parent.invariant
+    (λ r. false≢true (sym c.if-not-reached.true ∙ c.reached.ensures.1 (tells.1 r))) c.loop-parent.invariant
 
 pub loop-parent-preserved : goal.loop-parent-preserved
 loop-parent-preserved c =
     let items = c.parents-parent-items.result.now in
     let tells = c.search_from_goals-marks.ensures (get_or items c.loop-parent.parent-index 0) (c.parents-parent-items.ensures.known _ (Contains-get_or _ _ 0 c.loop-parent-test.true)) in
-    below_more (λ (k : ℕ). IsRequisite c.args.diagram.now.nodes c.args.decision (get_or items k 0)) c.loop-parent.parent-index c.loop-parent.invariant (tells.0 (c.reached.ensures.0 (let f = c.if-not-reached.false in cc)))
+    below_more (λ (k : ℕ). IsRequisite c.args.diagram.now.nodes c.args.decision (get_or items k 0)) c.loop-parent.parent-index c.loop-parent.invariant (tells.0 (c.reached.ensures.0 c.if-not-reached.false))
 
 pub returns : goal.returns
 returns c = all_seen c.args.diagram.now.nodes c.args.decision c.parents-parent-items.result.now c.parents-parent-items.ensures.parents c.loop-parent.parent-index (omega (arith, c.loop-parent-test.false)) c.loop-parent.invariant

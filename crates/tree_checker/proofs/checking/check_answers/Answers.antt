@@ -1,9 +1,10 @@
+use Rattle.std.proofs.lemmas.Result.{err_from_is_err_and}
 use Rattle.std.proofs.Common.{◌≡◌, ◌∙◌, ◌+◌, ◌<◌, ◌≤◌, length, Some, None, ap, sym, subst, arith}
 use Rattle.maid_model.specs.Answers.{answered, pure_profile}
 use Rattle.maid_model.specs.Profiles.{IsProfile}
 use Rattle.maid_model.specs.Views.{AnswerView, SolvedView}
 use Rattle.maid_laws.proofs.AnswerLaws.{profile}
-use Rattle.tree_checker.proofs.FirstLines.{CheckedSoFar, IsLookedAt, all_right, checked_next, checked_start, gain_first, gains_like, judged_like, line_room, looked_at, passed_all, row_first, rows_room}
+use Rattle.tree_checker.proofs.FirstLines.{CheckedSoFar, IsLookedAt, all_right, checked_next, checked_start, gain_first, gains_like, judged_like, line_room, looked_at, passed_all, row_first, rows_room, answer_fits}
 use Rattle.tree_checker.proofs.checking.check_answers.Goals as goal
 
 pub loop-answer-init : goal.loop-answer-init
@@ -69,3 +70,36 @@ returns c =
     gain_first c.args.diagram.now c.args.solved.now c.requires.fits c.requires.order c.loop-answer.answer-index c.loop-answer.line c.loop-answer.invariant
     (passed_all c.args.diagram.now c.args.solved.now c.requires.fits c.deref-answer-items.result.now c.loop-answer.answer-index (c.deref-answer-items.ensures.value ∙ ap (λ (x : SolvedView). x.answers) c.solved.view_is) c.loop-answer-test.false c.loop-answer.auto.answer-index-end) c.in-Some-2.agent
     (gains_like c.args.diagram.now c.in_ok-chosen.chosen (answered c.args.diagram.now c.args.solved.now) c.deref-2.result.now c.args.solved.now.gains c.in_ok-first_wrong_gain.field-0 (Some c.in-Some-2.agent) (c.in_ok-chosen.ensures.rules ∙ ap (pure_profile c.args.diagram.now.nodes) (c.deref.ensures.value ∙ ap (λ (x : SolvedView). x.answers) c.solved.view_is)) (c.deref-2.ensures.value ∙ ap (λ (x : SolvedView). x.gains) c.solved.view_is) c.in-Some-2.is c.in_ok-first_wrong_gain.ensures)
+
+pub returns-in_err-chosen : goal.returns-in_err-chosen
+returns-in_err-chosen c = rw (err_from_is_err_and c.from_residual.result c.from_residual.ensures.1).1 tt
+
+pub answer_fault-requires-clause-relevance : goal.answer_fault-requires-clause-relevance
+answer_fault-requires-clause-relevance c = c.requires.relevance
+
+pub answer_fault-requires-clause-bound : goal.answer_fault-requires-clause-bound
+answer_fault-requires-clause-bound c = c.requires.bound
+
+pub answer_fault-requires-clause-decision : goal.answer_fault-requires-clause-decision
+answer_fault-requires-clause-decision c = (answer_fits c.args.diagram.now c.args.solved.now c.requires.fits c.loop-answer.answer-index c.answer-item.result c.answer.inside.decision c.as_slice-rows.result.now (looked_at c.args.diagram.now c.args.solved.now c.requires.fits c.deref-answer-items.result.now c.loop-answer.answer-index c.answer-item.result (c.deref-answer-items.ensures.value ∙ ap (λ (x : SolvedView). x.answers) c.solved.view_is) c.loop-answer-test.true c.answer-item.is) (ap (λ (x : AnswerView). x.decision) c.answer.view_is) (c.as_slice-rows.ensures.value ∙ ap (λ (x : AnswerView). x.rows) c.answer.view_is)).decision
+
+pub answer_fault-requires-clause-count : goal.answer_fault-requires-clause-count
+answer_fault-requires-clause-count c = (answer_fits c.args.diagram.now c.args.solved.now c.requires.fits c.loop-answer.answer-index c.answer-item.result c.answer.inside.decision c.as_slice-rows.result.now (looked_at c.args.diagram.now c.args.solved.now c.requires.fits c.deref-answer-items.result.now c.loop-answer.answer-index c.answer-item.result (c.deref-answer-items.ensures.value ∙ ap (λ (x : SolvedView). x.answers) c.solved.view_is) c.loop-answer-test.true c.answer-item.is) (ap (λ (x : AnswerView). x.decision) c.answer.view_is) (c.as_slice-rows.ensures.value ∙ ap (λ (x : AnswerView). x.rows) c.answer.view_is)).rows
+
+pub answer_fault-requires-clause-choices : goal.answer_fault-requires-clause-choices
+answer_fault-requires-clause-choices c = (answer_fits c.args.diagram.now c.args.solved.now c.requires.fits c.loop-answer.answer-index c.answer-item.result c.answer.inside.decision c.as_slice-rows.result.now (looked_at c.args.diagram.now c.args.solved.now c.requires.fits c.deref-answer-items.result.now c.loop-answer.answer-index c.answer-item.result (c.deref-answer-items.ensures.value ∙ ap (λ (x : SolvedView). x.answers) c.solved.view_is) c.loop-answer-test.true c.answer-item.is) (ap (λ (x : AnswerView). x.decision) c.answer.view_is) (c.as_slice-rows.ensures.value ∙ ap (λ (x : AnswerView). x.rows) c.answer.view_is)).choices
+
+pub answer_fault-requires-clause-reduced : goal.answer_fault-requires-clause-reduced
+answer_fault-requires-clause-reduced c = (answer_fits c.args.diagram.now c.args.solved.now c.requires.fits c.loop-answer.answer-index c.answer-item.result c.answer.inside.decision c.as_slice-rows.result.now (looked_at c.args.diagram.now c.args.solved.now c.requires.fits c.deref-answer-items.result.now c.loop-answer.answer-index c.answer-item.result (c.deref-answer-items.ensures.value ∙ ap (λ (x : SolvedView). x.answers) c.solved.view_is) c.loop-answer-test.true c.answer-item.is) (ap (λ (x : AnswerView). x.decision) c.answer.view_is) (c.as_slice-rows.ensures.value ∙ ap (λ (x : AnswerView). x.rows) c.answer.view_is)).worths
+
+pub returns-in_err-fault : goal.returns-in_err-fault
+returns-in_err-fault c = rw (err_from_is_err_and c.from_residual-in_err-fault.result c.from_residual-in_err-fault.ensures.1).1 tt
+
+pub loop-answer-smaller : goal.loop-answer-smaller
+loop-answer-smaller c = omega (arith, c.loop-answer-test.true)
+
+pub first_wrong_gain-requires-clause-bound : goal.first_wrong_gain-requires-clause-bound
+first_wrong_gain-requires-clause-bound c = c.requires.bound
+
+pub returns-in_err-first_wrong_gain : goal.returns-in_err-first_wrong_gain
+returns-in_err-first_wrong_gain c = rw (err_from_is_err_and c.from_residual-in_err-first_wrong_gain.result c.from_residual-in_err-first_wrong_gain.ensures.1).1 tt

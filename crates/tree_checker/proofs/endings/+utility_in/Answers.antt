@@ -14,7 +14,7 @@ value-more-requires-clause-row t c = row_in c.args.diagram.now c.requires.diagra
 
 pub overflow_add-utility : goal.overflow_add-utility
 overflow_add-utility t c =
-    let same_sum : to_z w128 (of_z w128 c.args.utility) ≡ c.args.utility = to_z-of_z w128 c.args.utility (search rules) in
+    let same_sum : to_z w128 (of_z w128 c.args.utility) ≡ c.args.utility = to_z-of_z w128 c.args.utility c.ranges.utility in
     let room : nat_abs (to_z w128 (of_z w128 c.args.utility)) + nat_sum_over (greatest_at c.args.diagram.now.nodes) c.args.list.now ≤ greatest_number = subst (λ z. nat_abs z + nat_sum_over (greatest_at c.args.diagram.now.nodes) c.args.list.now ≤ greatest_number) (sym same_sum) c.requires.room in
     let left : nat_abs (to_z w128 (of_z w128 c.args.utility) +ℤ to_z w128 (of_z w128 c.value-more.result)) + nat_sum_over (greatest_at c.args.diagram.now.nodes) (take (length c.args.list.now - 1) (drop 1 c.args.list.now)) ≤ greatest_number =
     room_in c.args.diagram.now.nodes c.args.marks.now c.requires.marks (world_of c.args.world.now) c.args.list.now c.in-len1-up.len_at_least (to_z w128 (of_z w128 c.args.utility)) (to_z w128 (of_z w128 c.value-more.result)) (to_z-of_z w128 c.value-more.result (search rules) ∙ c.value-more.ensures ∙ ap (value_at c.args.diagram.now.nodes c.args.marks.now (slice_index_or c.args.list.now 0 0)) c.row.ensures) greatest_number room in
@@ -22,7 +22,7 @@ overflow_add-utility t c =
 
 pub utility_in-requires : goal.utility_in-requires
 utility_in-requires t c =
-    let same_sum : to_z w128 (of_z w128 c.args.utility) ≡ c.args.utility = to_z-of_z w128 c.args.utility (search rules) in
+    let same_sum : to_z w128 (of_z w128 c.args.utility) ≡ c.args.utility = to_z-of_z w128 c.args.utility c.ranges.utility in
     let room : nat_abs (to_z w128 (of_z w128 c.args.utility)) + nat_sum_over (greatest_at c.args.diagram.now.nodes) c.args.list.now ≤ greatest_number = subst (λ z. nat_abs z + nat_sum_over (greatest_at c.args.diagram.now.nodes) c.args.list.now ≤ greatest_number) (sym same_sum) c.requires.room in
     let left : nat_abs (to_z w128 (of_z w128 c.args.utility) +ℤ to_z w128 (of_z w128 c.value-more.result)) + nat_sum_over (greatest_at c.args.diagram.now.nodes) (take (length c.args.list.now - 1) (drop 1 c.args.list.now)) ≤ greatest_number =
     room_in c.args.diagram.now.nodes c.args.marks.now c.requires.marks (world_of c.args.world.now) c.args.list.now c.in-len1-up.len_at_least (to_z w128 (of_z w128 c.args.utility)) (to_z w128 (of_z w128 c.value-more.result)) (to_z-of_z w128 c.value-more.result (search rules) ∙ c.value-more.ensures ∙ ap (value_at c.args.diagram.now.nodes c.args.marks.now (slice_index_or c.args.list.now 0 0)) c.row.ensures) greatest_number room in
@@ -46,7 +46,7 @@ utility_in-requires t c =
 
 pub returns-in-len1-up : goal.returns-in-len1-up
 returns-in-len1-up t c =
-    let same_sum : to_z w128 (of_z w128 c.args.utility) ≡ c.args.utility = to_z-of_z w128 c.args.utility (search rules) in
+    let same_sum : to_z w128 (of_z w128 c.args.utility) ≡ c.args.utility = to_z-of_z w128 c.args.utility c.ranges.utility in
     let room : nat_abs (to_z w128 (of_z w128 c.args.utility)) + nat_sum_over (greatest_at c.args.diagram.now.nodes) c.args.list.now ≤ greatest_number = subst (λ z. nat_abs z + nat_sum_over (greatest_at c.args.diagram.now.nodes) c.args.list.now ≤ greatest_number) (sym same_sum) c.requires.room in
     let left : nat_abs (to_z w128 (of_z w128 c.args.utility) +ℤ to_z w128 (of_z w128 c.value-more.result)) + nat_sum_over (greatest_at c.args.diagram.now.nodes) (take (length c.args.list.now - 1) (drop 1 c.args.list.now)) ≤ greatest_number =
     room_in c.args.diagram.now.nodes c.args.marks.now c.requires.marks (world_of c.args.world.now) c.args.list.now c.in-len1-up.len_at_least (to_z w128 (of_z w128 c.args.utility)) (to_z w128 (of_z w128 c.value-more.result)) (to_z-of_z w128 c.value-more.result (search rules) ∙ c.value-more.ensures ∙ ap (value_at c.args.diagram.now.nodes c.args.marks.now (slice_index_or c.args.list.now 0 0)) c.row.ensures) greatest_number room in
@@ -55,3 +55,18 @@ returns-in-len1-up t c =
     ∙ utility_is c.args.diagram.now.nodes c.args.marks.now c.requires.marks (world_of c.args.world.now) c.args.list.now c.in-len1-up.len_at_least (to_z w128 (of_z w128 c.args.utility)) (to_z w128 (of_z w128 c.value-more.result)) (to_z-of_z w128 c.value-more.result (search rules) ∙ c.value-more.ensures ∙ ap (value_at c.args.diagram.now.nodes c.args.marks.now (slice_index_or c.args.list.now 0 0)) c.row.ensures) c.utility_in.result
     (c.utility_in.ensures ∙ ap (λ z. utility_with c.args.diagram.now.nodes c.args.marks.now (take (length c.args.list.now - 1) (drop 1 c.args.list.now)) z (world_of c.args.world.now)) (to_z-of_z w128 (to_z w128 (of_z w128 c.args.utility) +ℤ to_z w128 (of_z w128 c.value-more.result)) fits))
     ∙ ap (λ z. utility_with c.args.diagram.now.nodes c.args.marks.now c.args.list.now z (world_of c.args.world.now)) same_sum
+
+pub row-requires-clause-node : goal.row-requires-clause-node
+row-requires-clause-node t c = (down_opened c.args.diagram.now.nodes c.args.list.now c.in-len1-up.len_at_least c.requires.list).0
+
+pub row-requires-clause-world : goal.row-requires-clause-world
+row-requires-clause-world t c = c.requires.world
+
+pub value-more-requires-clause-node : goal.value-more-requires-clause-node
+value-more-requires-clause-node t c = (down_opened c.args.diagram.now.nodes c.args.list.now c.in-len1-up.len_at_least c.requires.list).0
+
+pub value-more-requires-clause-marks : goal.value-more-requires-clause-marks
+value-more-requires-clause-marks t c = c.requires.marks
+
+pub bounds-list-0 : goal.bounds-list-0
+bounds-list-0 t c = c.in-len1-up.len_at_least

@@ -1,4 +1,5 @@
-use Rattle.std.proofs.Common.{◌∙◌, ◌*◌, ◌^◌, ◌≤◌, ap, max, nat_abs, sym, subst}
+use Rattle.std.proofs.lemmas.Result.{err_from_is_err_and}
+use Rattle.std.proofs.Common.{◌∙◌, ◌*◌, ◌^◌, ◌≤◌, ap, max, nat_abs, sym, subst, arith}
 use Rattle.std.proofs.lemmas.Int.{to_z-of_z}
 use Rattle.std.specs.Int.{w128}
 use Rattle.maid_model.specs.Diagrams.{greatest_number}
@@ -22,3 +23,18 @@ pub returns-clause-small : goal.returns-clause-small
 returns-clause-small c =
     let g = first_gain c.args.diagram.now c.count.ensures.diagram c.args.profile.now c.args.agent c.marks_of-marks.result c.in_ok-sums.sums.gains.items c.in_ok-sums.sums.masses.items c.marks_of-marks.ensures.marks c.count.result c.count.ensures.count c.in_ok-sums.ensures c.index.result.now c.index.ensures in
     subst (λ z. nat_abs z ≤ greatest_number) (sym (to_z-of_z w128 c.index.result.now (small_fits c.index.result.now g.1))) g.1
+
+pub cells_over-requires-clause-profile : goal.cells_over-requires-clause-profile
+cells_over-requires-clause-profile c = c.requires.profile
+
+pub cells_over-requires-clause-marks : goal.cells_over-requires-clause-marks
+cells_over-requires-clause-marks c = c.marks_of-marks.ensures.utilities
+
+pub cells_over-requires-clause-decision : goal.cells_over-requires-clause-decision
+cells_over-requires-clause-decision c = omega (arith, c.count.ensures.count)
+
+pub returns-in_err-sums-clause-sum : goal.returns-in_err-sums-clause-sum
+returns-in_err-sums-clause-sum c = rw (err_from_is_err_and c.from_residual.result c.from_residual.ensures.1).1 tt
+
+pub returns-in_err-sums-clause-small : goal.returns-in_err-sums-clause-small
+returns-in_err-sums-clause-small c = rw (err_from_is_err_and c.from_residual.result c.from_residual.ensures.1).1 tt

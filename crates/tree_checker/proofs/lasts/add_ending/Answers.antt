@@ -9,7 +9,7 @@ use Rattle.tree_checker.proofs.lasts.add_ending.Goals as goal
 
 pub add_last-requires : goal.add_last-requires
 add_last-requires c =
-    let same_sum : to_z w128 (of_z w128 c.args.utility) ≡ c.args.utility = to_z-of_z w128 c.args.utility (search rules) in
+    let same_sum : to_z w128 (of_z w128 c.args.utility) ≡ c.args.utility = to_z-of_z w128 c.args.utility c.ranges.utility in
     record {
       setting = c.requires.setting;
       last = (subst (λ l. IsEnding c.args.setting.now.diagram.now.nodes c.args.setting.now.left_out c.args.setting.now.marks.now l c.args.setting.now.tail.now) c.in-Some.is c.requires.ending);
@@ -22,7 +22,7 @@ add_last-requires c =
 
 pub add_world-requires : goal.add_world-requires
 add_world-requires c =
-    let same_sum : to_z w128 (of_z w128 c.args.utility) ≡ c.args.utility = to_z-of_z w128 c.args.utility (search rules) in
+    let same_sum : to_z w128 (of_z w128 c.args.utility) ≡ c.args.utility = to_z-of_z w128 c.args.utility c.ranges.utility in
     record {
       setting = c.requires.setting;
       tail = (subst (λ l. IsDownward c.args.setting.now.diagram.now.nodes (ending l c.args.setting.now.tail.now)) c.in-None.is c.requires.order);
@@ -34,7 +34,7 @@ add_world-requires c =
 
 pub returns-in-Some : goal.returns-in-Some
 returns-in-Some c =
-    let same_sum : to_z w128 (of_z w128 c.args.utility) ≡ c.args.utility = to_z-of_z w128 c.args.utility (search rules) in
+    let same_sum : to_z w128 (of_z w128 c.args.utility) ≡ c.args.utility = to_z-of_z w128 c.args.utility c.ranges.utility in
     record {
       again = c.add_last.ensures.again;
       gains = λ cell. c.add_last.ensures.gains cell ∙ (λ i. slice_index_or c.args.gains.now cell (pos 0) +ℤ gain_with c.args.setting.now.diagram.now.nodes c.args.setting.now.profile.now c.args.setting.now.left_out c.args.setting.now.marks.now (ending (sym c.in-Some.is i) c.args.setting.now.tail.now) c.args.product (same_sum i) cell (world_of c.args.world.now));
@@ -45,7 +45,7 @@ returns-in-Some c =
 
 pub returns-in-None : goal.returns-in-None
 returns-in-None c =
-    let same_sum : to_z w128 (of_z w128 c.args.utility) ≡ c.args.utility = to_z-of_z w128 c.args.utility (search rules) in
+    let same_sum : to_z w128 (of_z w128 c.args.utility) ≡ c.args.utility = to_z-of_z w128 c.args.utility c.ranges.utility in
     record {
       again = λ i. c.args.world.now;
       gains = λ cell. c.add_world.ensures.gains cell

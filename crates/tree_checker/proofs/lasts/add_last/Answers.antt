@@ -8,7 +8,7 @@ use Rattle.tree_checker.proofs.lasts.add_last.Goals as goal
 
 pub add_pairs-requires : goal.add_pairs-requires
 add_pairs-requires c =
-    let same_sum : to_z w128 (of_z w128 c.args.utility) ≡ c.args.utility = to_z-of_z w128 c.args.utility (search rules) in
+    let same_sum : to_z w128 (of_z w128 c.args.utility) ≡ c.args.utility = to_z-of_z w128 c.args.utility c.ranges.utility in
     record {
       setting = c.requires.setting;
       last = c.requires.last;
@@ -30,7 +30,7 @@ places_at-places-requires-clause-utility c =
 
 pub add_states-requires : goal.add_states-requires
 add_states-requires c =
-    let same_sum : to_z w128 (of_z w128 c.args.utility) ≡ c.args.utility = to_z-of_z w128 c.args.utility (search rules) in
+    let same_sum : to_z w128 (of_z w128 c.args.utility) ≡ c.args.utility = to_z-of_z w128 c.args.utility c.ranges.utility in
     record {
       setting = c.requires.setting;
       last = c.requires.last;
@@ -44,7 +44,7 @@ add_states-requires c =
 
 pub returns-in-Some : goal.returns-in-Some
 returns-in-Some c =
-    let same_sum : to_z w128 (of_z w128 c.args.utility) ≡ c.args.utility = to_z-of_z w128 c.args.utility (search rules) in
+    let same_sum : to_z w128 (of_z w128 c.args.utility) ≡ c.args.utility = to_z-of_z w128 c.args.utility c.ranges.utility in
     record {
       again = c.add_pairs.ensures.again;
       gains = λ cell. c.add_pairs.ensures.gains cell ∙ ap (λ z. slice_index_or c.args.gains.now cell (pos 0) +ℤ gain_with c.args.setting.now.diagram.now.nodes c.args.setting.now.profile.now c.args.setting.now.left_out c.args.setting.now.marks.now (last_nodes c.args.last.now) c.args.product z cell (world_of c.args.world.now)) same_sum;
@@ -55,7 +55,7 @@ returns-in-Some c =
 
 pub returns-in-None : goal.returns-in-None
 returns-in-None c =
-    let same_sum : to_z w128 (of_z w128 c.args.utility) ≡ c.args.utility = to_z-of_z w128 c.args.utility (search rules) in
+    let same_sum : to_z w128 (of_z w128 c.args.utility) ≡ c.args.utility = to_z-of_z w128 c.args.utility c.ranges.utility in
     record {
       again = λ i. c.args.world.now;
       gains = λ cell. c.add_states.ensures.gains cell ∙ (λ i. slice_index_or c.args.gains.now cell (pos 0) +ℤ gain_with c.args.setting.now.diagram.now.nodes c.args.setting.now.profile.now c.args.setting.now.left_out c.args.setting.now.marks.now (with_before (sym c.in-None.is i) (c.args.last.now.node ∷ c.args.last.now.utility ∷ [])) c.args.product (same_sum i) cell (world_of c.args.world.now));

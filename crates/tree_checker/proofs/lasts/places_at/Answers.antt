@@ -36,3 +36,24 @@ returns c =
       row = row_first c.args.setting.now.diagram.now c.requires.setting.diagram c.args.world.now c.requires.world c.args.last.now.node c.requires.node c.index-state.result.now at c.args.last.now.utility c.requires.utility c.args.last.now.row_step c.requires.last.row c.row-2.result c.row-2.ensures;
       cell = cell_first c.args.setting.now.diagram.now c.requires.setting.diagram c.args.world.now c.requires.world c.args.last.now.node c.requires.node c.index-state.result.now at c.args.setting.now.left_out c.requires.setting.decision c.args.last.now.cell_step c.requires.last.cell c.place.result c.place.ensures.place;
     }
+
+pub row-requires-clause-node : goal.row-requires-clause-node
+row-requires-clause-node c = c.requires.node
+
+pub row-requires-clause-world : goal.row-requires-clause-world
+row-requires-clause-world c = c.requires.world
+
+pub states-requires : goal.states-requires
+states-requires c = c.requires.node
+
+pub row-requires-2-clause-node : goal.row-requires-2-clause-node
+row-requires-2-clause-node c = c.requires.utility
+
+pub row-requires-2-clause-world : goal.row-requires-2-clause-world
+row-requires-2-clause-world c = c.requires.world
+
+pub place-requires-clause-decision : goal.place-requires-clause-decision
+place-requires-clause-decision c = c.requires.setting.decision
+
+pub place-requires-clause-world : goal.place-requires-clause-world
+place-requires-clause-world c = c.requires.world

@@ -1,4 +1,4 @@
-use Rattle.std.proofs.Common.{rules, ◌∙◌, [], ◌∷◌, ◌-◌, arith, length, sym, take, slice_index_or}
+use Rattle.std.proofs.Common.{rules, ◌∙◌, [], ◌∷◌, ◌-◌, arith, length, sym, take, slice_index_or, refl}
 use Rattle.tree_checker.proofs.LastSplit.{before_whole, ends_whole, front_inside, last_inside, tail_inside}
 use Rattle.tree_checker.proofs.lasts.split_last.Goals as goal
 
@@ -34,3 +34,24 @@ returns-in-Chance c = record {
     before = c.split_before-before.ensures.before;
   };
 }
+
+pub overflow_sub-v : goal.overflow_sub-v
+overflow_sub-v c = c.in-len1-up.len_at_least
+
+pub returns-in-Utility-clause-whole : goal.returns-in-Utility-clause-whole
+returns-in-Utility-clause-whole c = refl
+
+pub returns-in-Utility-clause-ending : goal.returns-in-Utility-clause-ending
+returns-in-Utility-clause-ending c = c.requires.tail
+
+pub returns-then-not-holds : goal.returns-then-not-holds
+returns-then-not-holds c = record { whole = refl; ending = c.requires.tail }
+
+pub cell_step-requires : goal.cell_step-requires
+cell_step-requires c = record { node = c.requires.decision; by = last_inside c.args.diagram.now.nodes c.args.order.now c.args.tail.now c.in-len1-up.len_at_least c.requires.order }
+
+pub returns-clause-whole : goal.returns-clause-whole
+returns-clause-whole c = refl
+
+pub returns-clause-ending : goal.returns-clause-ending
+returns-clause-ending c = c.requires.tail

@@ -1,4 +1,7 @@
-use Rattle.std.proofs.Common.{◌∙◌, ◌*◌, sym, subst}
+use Rattle.maid_model.specs.declared.answers.Row.{Row}
+use Rattle.std.proofs.lemmas.Result.{err_from_is_err_and}
+use Rattle.std.specs.Prelude.{All}
+use Rattle.std.proofs.Common.{◌∙◌, ◌*◌, sym, subst, ◌<◌}
 use Rattle.maid_model.specs.Answers.{no_row}
 use Rattle.maid_model.specs.Nodes.{states_of}
 use Rattle.maid_model.specs.Scopes.{scope_of}
@@ -39,3 +42,36 @@ returns c =
           (subst (λ n. JudgesRows (PassesListed c.in_ok-sums.sums.gains.items c.in_ok-sums.sums.masses.items (states_of d.nodes v) n) (FailsListed c.in_ok-sums.sums.gains.items c.in_ok-sums.sums.masses.items (states_of d.nodes v) n) c.args.rows.now c.first_fault.result) c.scale_of.ensures.scale
           (subst (λ n. JudgesRows (PassesListed c.in_ok-sums.sums.gains.items c.in_ok-sums.sums.masses.items n c.scale_of.result) (FailsListed c.in_ok-sums.sums.gains.items c.in_ok-sums.sums.masses.items n c.scale_of.result) c.args.rows.now c.first_fault.result) c.states-states.ensures.states c.first_fault.ensures));
     }
+
+pub base_of-requires-clause-decision : goal.base_of-requires-clause-decision
+base_of-requires-clause-decision c = c.requires.decision
+
+pub base_of-requires-clause-relevance : goal.base_of-requires-clause-relevance
+base_of-requires-clause-relevance c = c.requires.relevance
+
+pub base_of-requires-clause-chosen : goal.base_of-requires-clause-chosen
+base_of-requires-clause-chosen c = c.requires.chosen
+
+pub returns-in_err-base : goal.returns-in_err-base
+returns-in_err-base c = rw (err_from_is_err_and c.from_residual.result c.from_residual.ensures.1).1 tt
+
+pub scope_sums-requires-clause-decision : goal.scope_sums-requires-clause-decision
+scope_sums-requires-clause-decision c = c.requires.decision
+
+pub scope_sums-requires-clause-base : goal.scope_sums-requires-clause-base
+scope_sums-requires-clause-base c = c.in_ok-base.ensures.profile
+
+pub scope_sums-requires-clause-bound : goal.scope_sums-requires-clause-bound
+scope_sums-requires-clause-bound c = c.requires.bound
+
+pub returns-in_err-sums : goal.returns-in_err-sums
+returns-in_err-sums c = rw (err_from_is_err_and c.from_residual-in_err-sums.result c.from_residual-in_err-sums.ensures.1).1 tt
+
+pub first_fault-requires-clause-choices : goal.first_fault-requires-clause-choices
+first_fault-requires-clause-choices c = subst (λ n. All (λ (row : Row). row.choice < n) c.args.rows.now) (sym c.states-states.ensures.states) c.requires.choices
+
+pub first_fault-requires-clause-reduced : goal.first_fault-requires-clause-reduced
+first_fault-requires-clause-reduced c = c.requires.reduced
+
+pub first_fault-requires-clause-scale : goal.first_fault-requires-clause-scale
+first_fault-requires-clause-scale c = c.scale_of.ensures.some

@@ -1,4 +1,4 @@
-use Rattle.std.proofs.Common.{rules, ◌≡◌, ◌∙◌, ◌⊎◌, ◌*◌, true, false, sym, subst, inl, inr, ℤ, pos, ◌≤ℤ◌, ◌<ℤ◌, slice_index_or, FitsSigned, arith}
+use Rattle.std.proofs.Common.{rules, ℕ, zero, suc, refl, ◌≡◌, ◌∙◌, ◌⊎◌, ◌*◌, true, false, sym, subst, inl, inr, ℤ, pos, ◌≤ℤ◌, ◌<ℤ◌, slice_index_or, FitsSigned, arith}
 use Rattle.std.proofs.lemmas.Int.{to_z-of_z}
 use Rattle.std.specs.Int.{w128}
 use Rattle.maid_model.specs.Answers.{IsFraction}
@@ -14,6 +14,10 @@ unless a b n = go (compare a b)
     go : (a ≤ℤ b) ⊎ (b <ℤ a) → a ≤ℤ b
     go (inl h) = h
     go (inr h) = absurd (n h)
+
+positive : (m : ℕ) → (m ≡ 0 → ⊥) → pos 0 <ℤ pos m
+positive zero h = absurd (h refl)
+positive (suc m) h = omega (arith, ints)
 
 not_both : true ≡ false → ⊥
 not_both e = cc
@@ -31,3 +35,14 @@ returns-then-is_fraction c =
       );
       never = λ e. absurd (omega (arith, ints));
     }
+
+pub returns-else-is_fraction : goal.returns-else-is_fraction
+returns-else-is_fraction c = (
+  positive c.args.mass c.if-mass-eq0-2.false,
+  (λ b. not_both (sym (c.has_better.ensures.1 b) ∙ c.if-has_better.false)),
+  (
+    c.in-Some.worth,
+    c.in-Some.is,
+    (λ f. not_both (sym (c.is_fraction.ensures.1 (subst (λ g. IsFraction c.in-Some.worth g (c.args.mass * c.args.scale)) (sym (to_z-of_z w128 (slice_index_or c.args.gains.now c.args.row.now.choice (pos 0)) (search rules))) f)) ∙ c.if-is_fraction.false)),
+  ),
+)
