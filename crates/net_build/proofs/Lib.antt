@@ -34,6 +34,7 @@ pub mod AgentFacts
 pub mod Assembly
 pub mod AllPasses
 pub mod LinkLemmas
+pub mod OutOfMemory
 pub mod SizeLemmas
 pub mod PotentialLemmas
 pub mod FitLemmas

@@ -13,7 +13,7 @@ use Rattle.net_lexer.specs.declared.tokens.Token.{Token}
 use Rattle.weight_scale.specs.declared.decimal.Decimal.{Decimal}
 use Rattle.weight_scale.specs.Numeral.{numerator, denominator, IsLeastDecimalOf}
 use Rattle.weight_scale.specs.Scaling as scaling
-use Rattle.weight_scale.specs.Scaling.{row_at, raised_row, IsReducedRow, IsScaled, IsTooWide, IsCommonTotal}
+use Rattle.weight_scale.specs.Scaling.{row_at, raised_row, IsReducedRow, IsScaled, IsTooWide}
 use Rattle.weight_scale.specs.Views.{ScaledView}
 use Rattle.net_build.specs.Scaling.{AreDecimals}
 use Rattle.net_build.proofs.ScaleLemmas.{tens_positive, tens_split, den_positive, sizes}

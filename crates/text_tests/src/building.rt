@@ -36,7 +36,7 @@ fn fault_of(alloc: Global, text: &str) -> Result<String, Fail> {
     match build(alloc, text, &tokens, &syntax) {
         Ok(_) => Err("it has a diagram".into()),
         Err(BuildFault::NoMemory) => Err("no memory".into()),
-        Err(BuildFault::Fault { at, kind }) => Ok(format!(in alloc; "{kind} at {at}")?),
+        Err(BuildFault::Fault { at, kind }) => Ok(format!(in alloc; "{kind:?} at {at}")?),
     }
 }
 
@@ -90,31 +90,31 @@ fn rows_are_in_proportion(rt: HostRuntime) -> Result<(), Fail> {
 const FAULTS: [(&str, &str); 7] = [
     (
         "node A { states = (\"x\" \"y\"); } potential (A) { data = (0 0); }",
-        "zero row at 55",
+        "ZeroRow at 55",
     ),
     (
         "node A { states = (\"x\" \"y\"); } potential (A) { data = (1 1 1); }",
-        "wrong count: want 2 got 3 at 47",
+        "WrongCount { want: 2, got: 3 } at 47",
     ),
     (
         "utility U { } potential (U) { data = (1e38); }",
-        "number too long at 38",
+        "NumberTooLong at 38",
     ),
     (
         "utility U { } utility V { } utility W { } potential (V) { data = (8e37); } potential (U) { data = (7e37); } potential (W) { data = (0.5); }",
-        "wide value at 66",
+        "WideValue at 66",
     ),
     (
         "node A { states = (\"x\"); } node B { states = (\"x\"); } potential (A | B) { data = (1); } potential (B | A) { data = (1); }",
-        "graph cycle at 5",
+        "GraphCycle { list: [0, 1] } at 5",
     ),
     (
         "node A { states = (\"a\"); } node A { states = (\"a\"); }",
-        "double name at 32",
+        "DoubleName at 32",
     ),
     (
         "decision D { states = (\"a\"); states = 5; }",
-        "double attribute at 29",
+        "DoubleAttribute at 29",
     ),
 ];
 

@@ -1,10 +1,18 @@
 -- A chance table's weights are its numbers'.
+use Rattle.net_build.proofs.LinkLemmas.{hands_on}
+use Rattle.first_fault.proofs.Leading.{refused_first}
+use Rattle.net_parser.specs.Owned.{leaves}
+use Rattle.maid_model.specs.Nodes.{is_chance}
+use Rattle.first_fault.specs.Passes.{only}
+use Rattle.net_lexer.specs.Token.{token_bytes}
+use Rattle.std.proofs.lemmas.List.{length-map}
+use Rattle.std.proofs.lemmas.Result.{IfOk-from_err}
 use Rattle.std.proofs.Common.{◌≡◌, ◌*◌, length, ap, ◌∙◌, rules}
 use Rattle.first_fault.specs.Answers.{IsFaultOrNoMemory}
 use Rattle.net_build.specs.Passes.{build_fault}
-use Rattle.net_build.specs.TableParts.{data_part}
+use Rattle.net_build.specs.TableParts.{data_part, number_rows, weight_part}
 use Rattle.net_parser.specs.Trees.{AttributeTree}
-use Rattle.net_build.proofs.DraftLemmas.{chance_refused, chance_clear, same_count}
+use Rattle.net_build.proofs.DraftLemmas.{chance_refused, chance_clear, same_count, divides_by}
 use Rattle.net_build.proofs.drafts.read_cells.Goals as goal
 
 pub returns-in_err-cells-in-Chance-clause-rows : goal.returns-in_err-cells-in-Chance-clause-rows
@@ -20,3 +28,30 @@ returns-in_ok-cells-in-Chance-clause-rows c =
     let same = c.requires.numerals in
     let count : length c.args.numerals.now ≡ c.args.rows * c.args.head.now.states = ap length same ∙ same_count _ _ c.in_ok-decimals.ensures.rows.1.0 in
     chance_clear c.args.text.now c.args.head.now.kind c.args.rows c.args.head.now.states _ c.args.table.now c.in-Chance.is c.in_ok-decimals.ensures.rows (ap (λ (a : AttributeTree). a.name.start) c.table.view_is) c.args.numerals.now same (c.in_ok-cells-in-Chance.ensures.rows c.args.text.now c.args.rows count (rw c.deref.ensures.value c.in_ok-decimals.ensures.decimals))
+
+pub read_numbers-requires-clause-own : goal.read_numbers-requires-clause-own
+read_numbers-requires-clause-own c = c.requires.own
+
+pub read_numbers-requires-clause-numerals : goal.read_numbers-requires-clause-numerals
+read_numbers-requires-clause-numerals c = c.requires.numerals
+
+pub returns-in_err-decimals-clause-rows : goal.returns-in_err-decimals-clause-rows
+returns-in_err-decimals-clause-rows c =
+    let numbers = number_rows c.args.text.now (c.args.rows * c.args.head.now.states) c.args.table.now in
+    let weighed = only (is_chance c.args.head.now.kind) (weight_part c.args.text.now c.args.head.now.states c.args.rows c.args.table.now.name.start (leaves c.args.table.now.value)) in
+    hands_on (data_part c.args.text.now c.args.head.now.kind c.args.rows c.args.head.now.states c.args.table.now) _ _ c.from_residual.ensures (refused_first numbers weighed _ c.in_err-decimals.ensures.rows)
+
+pub returns-in_err-decimals-clause-draft : goal.returns-in_err-decimals-clause-draft
+returns-in_err-decimals-clause-draft c = IfOk-from_err _ _ c.from_residual.ensures.0
+
+pub weights-requires-clause-states : goal.weights-requires-clause-states
+weights-requires-clause-states c = c.requires.states
+
+pub weights-requires-clause-whole : goal.weights-requires-clause-whole
+weights-requires-clause-whole c = divides_by _ c.args.rows c.args.head.now.states (ap length c.deref.ensures.value ∙ c.in_ok-decimals.ensures.decimals.len ∙ length-map c.args.numerals.now (token_bytes c.args.text.now) ∙ ap length c.requires.numerals ∙ same_count _ _ c.in_ok-decimals.ensures.rows.1.0)
+
+pub weights-requires-clause-len : goal.weights-requires-clause-len
+weights-requires-clause-len c = ap length c.deref.ensures.value ∙ c.in_ok-decimals.ensures.decimals.len ∙ length-map c.args.numerals.now (token_bytes c.args.text.now)
+
+pub returns-in_err-cells-in-Chance-clause-draft : goal.returns-in_err-cells-in-Chance-clause-draft
+returns-in_err-cells-in-Chance-clause-draft c = IfOk-from_err _ _ c.from_residual-in_err-cells-in-Chance.ensures.0

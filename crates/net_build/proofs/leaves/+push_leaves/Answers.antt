@@ -1,4 +1,6 @@
-use Rattle.std.proofs.Common.{◌++◌, ap, sym, ◌∙◌}
+use borrow.Author.Count.{falls}
+use Rattle.std.proofs.lemmas.Result.{IfOk-from_err}
+use Rattle.std.proofs.Common.{◌++◌, ap, sym, ◌∙◌, refl}
 use Rattle.std.proofs.lemmas.List.{take_all}
 use Rattle.net_parser.specs.Owned.{leaves}
 use Rattle.net_parser.specs.Views.{value_tree}
@@ -16,3 +18,21 @@ returns-after-loop-inner t c =
 
 pub returns-in_ok-extend_from_slice-in-Leaves : goal.returns-in_ok-extend_from_slice-in-Leaves
 returns-in_ok-extend_from_slice-in-Leaves t c = c.in_ok-extend_from_slice-in-Leaves.ensures.items ∙ ap (λ ls. c.args.tokens.now.items ++ ls) (sym (leaves_of_flat c.args.value.now c.in-Leaves.leaves c.in-Leaves.is))
+
+pub returns-in_err-push-in-Leaf : goal.returns-in_err-push-in-Leaf
+returns-in_err-push-in-Leaf t c = IfOk-from_err _ _ c.from_residual.ensures.0
+
+pub slice_bounds-extend_from_slice-end : goal.slice_bounds-extend_from_slice-end
+slice_bounds-extend_from_slice-end t c = refl
+
+pub returns-in_err-extend_from_slice-in-Leaves : goal.returns-in_err-extend_from_slice-in-Leaves
+returns-in_err-extend_from_slice-in-Leaves t c = IfOk-from_err _ _ c.from_residual-in_err-extend_from_slice-in-Leaves.ensures.0
+
+pub bounds-inner-items-inner-index : goal.bounds-inner-items-inner-index
+bounds-inner-items-inner-index t c = c.loop-inner-test.true
+
+pub returns-in_err-push_leaves-in-List : goal.returns-in_err-push_leaves-in-List
+returns-in_err-push_leaves-in-List t c = IfOk-from_err _ _ c.from_residual-in_err-push_leaves-in-List.ensures.0
+
+pub loop-inner-smaller : goal.loop-inner-smaller
+loop-inner-smaller t c = falls _ _ c.loop-inner-test.true

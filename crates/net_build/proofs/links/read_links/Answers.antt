@@ -1,13 +1,14 @@
 -- The lists of the nodes are those of their blocks, so that what the steps find over them, the passes find.
-use Rattle.std.proofs.Common.{◌≡◌, length, map, None, AllPairs, ◌≢◌, ap, sym, subst, ◌∙◌}
+use Rattle.std.proofs.lemmas.Result.{IfOk-from_err}
+use Rattle.std.proofs.Common.{◌≡◌, length, map, None, AllPairs, ◌≢◌, ap, sym, subst, ◌∙◌, All}
 use Rattle.std.proofs.lemmas.List.{length-map}
 use Rattle.std.specs.Option.{option_map}
 use Rattle.net_build.specs.Blocks.{node_blocks, names_of, potentials}
-use Rattle.net_build.specs.Linking.{borrowed_trees, parents_in}
+use Rattle.net_build.specs.Linking.{borrowed_trees, parents_in, AreParents}
 use Rattle.net_build.specs.Lists.{numbers_of_lists}
 use Rattle.first_fault.specs.Passes.{Pass, ◌▸◌}
 use Rattle.net_build.specs.Passes.{Found}
-use Rattle.net_build.specs.Stages.{NodeLists, LinkLists, head_of}
+use Rattle.net_build.specs.Stages.{NodeLists, LinkLists, head_of, AreLinks}
 use Rattle.net_build.specs.Table.{potential_pass, missing_pass, graph_pass, size_pass}
 use Rattle.net_build.proofs.LinkLemmas.{hands_on}
 use Rattle.net_build.proofs.LinkPasses.{same_refused, potentials_into, rest_into, links_are, length_among, length_in, length_heads, names_differ}
@@ -66,3 +67,35 @@ pub returns-clause-links : goal.returns-clause-links
 returns-clause-links c =
     let names : c.nodes.inside.names ≡ names_of c.args.text.now (node_blocks c.args.syntax.now) = ap (λ (n : NodeLists). n.names) c.nodes.view_is ∙ ap (λ (n : NodeLists). n.names) c.requires.nodes in
     links_are c.args.text.now c.args.syntax.now c.nodes.inside.names c.in_ok-links.links names c.in_ok-links.ensures.potentials c.in_ok-links.ensures.parents
+
+pub read_potentials-requires-clause-blocks : goal.read_potentials-requires-clause-blocks
+read_potentials-requires-clause-blocks c = c.requires.blocks
+
+pub read_potentials-requires-clause-heads : goal.read_potentials-requires-clause-heads
+read_potentials-requires-clause-heads c =
+    let names : c.nodes.inside.names ≡ names_of c.args.text.now (node_blocks c.args.syntax.now) = ap (λ (n : NodeLists). n.names) c.nodes.view_is ∙ ap (λ (n : NodeLists). n.names) c.requires.nodes in
+    let heads : c.as_slice-heads.result.now ≡ map (head_of c.args.text.now (node_blocks c.args.syntax.now)) (node_blocks c.args.syntax.now) = c.as_slice-heads.ensures.value ∙ ap (λ (n : NodeLists). n.heads) c.nodes.view_is ∙ ap (λ (n : NodeLists). n.heads) c.requires.nodes in
+    sym (length_heads c.args.text.now c.args.syntax.now c.nodes.inside.names c.as_slice-heads.result.now names heads)
+
+pub returns-in_err-links-clause-links : goal.returns-in_err-links-clause-links
+returns-in_err-links-clause-links c = IfOk-from_err _ _ c.from_residual.ensures.0
+
+pub returns-in_err-links-clause-fit : goal.returns-in_err-links-clause-fit
+returns-in_err-links-clause-fit c = IfOk-from_err _ _ c.from_residual.ensures.0
+
+pub check_links-requires-clause-fit : goal.check_links-requires-clause-fit
+check_links-requires-clause-fit c =
+    let rows : numbers_of_lists c.deref.result.now ≡ c.in_ok-links.links.parents = ap numbers_of_lists c.deref.ensures.value ∙ ap (λ (l : LinkLists). l.parents) c.links.view_is in
+    subst (All (AreParents c.as_slice-heads.result.now)) (sym rows) c.in_ok-links.ensures.fit
+
+pub returns-in_err-check_links-clause-links : goal.returns-in_err-check_links-clause-links
+returns-in_err-check_links-clause-links c = IfOk-from_err _ _ c.from_residual-in_err-check_links.ensures.0
+
+pub returns-in_err-check_links-clause-fit : goal.returns-in_err-check_links-clause-fit
+returns-in_err-check_links-clause-fit c = IfOk-from_err _ _ c.from_residual-in_err-check_links.ensures.0
+
+pub returns-clause-fit : goal.returns-clause-fit
+returns-clause-fit c =
+    let rows : numbers_of_lists c.deref.result.now ≡ c.in_ok-links.links.parents = ap numbers_of_lists c.deref.ensures.value ∙ ap (λ (l : LinkLists). l.parents) c.links.view_is in
+    let same : c.as_slice-heads.result.now ≡ c.args.nodes.now.heads = c.as_slice-heads.ensures.value ∙ ap (λ (n : NodeLists). n.heads) c.nodes.view_is in
+    subst (λ hs. AreLinks hs c.in_ok-links.links.parents) same (subst (AreLinks c.as_slice-heads.result.now) rows c.in_ok-check_links.ensures.fit)

@@ -1,4 +1,5 @@
 -- A name is tried against those seen, which are the names before it.
+use borrow.Author.Count.{falls}
 use Rattle.std.proofs.Common.{◌≡◌, ◌<◌, [], List, ℕ, get_or, map, length, Contains, ap, sym, subst, ◌∙◌, arith}
 use Rattle.std.proofs.lemmas.List.{get_or-map, get_or_default, length-map}
 use Rattle.std.specs.Global.{Vec}
@@ -10,7 +11,7 @@ use Rattle.net_build.specs.Passes.{build_fault}
 use Rattle.net_build.specs.Table.{repeated_agent_row, seen_agent_row}
 use Rattle.net_lexer.specs.Token.{text_value}
 use Rattle.net_lexer.specs.declared.tokens.Token.{Token}
-use Rattle.net_build.proofs.LinkLemmas.{hands_on, behind_on, behind_refused, map_more}
+use Rattle.net_build.proofs.LinkLemmas.{hands_on, behind_on, behind_refused, map_more, behind_end}
 use Rattle.net_build.proofs.owner_names.check_distinct.Goals as goal
 
 -- the name at a place is the value of the string there
@@ -46,3 +47,26 @@ loop-place-preserved c =
       seen = map_more (text_value text) agents c.loop-place.seen _ i agent _ h at name c.loop-place.invariant.seen c.in_ok-see_agent.ensures.seen;
       lead = behind_on (repeated_agent_row text) agents _ i agent h at c.loop-place.invariant.lead (subst (λ s. Contains s (text_value text agent) → ⊥) c.loop-place.invariant.seen lacks);
     }
+
+pub new-seen-requires : goal.new-seen-requires
+new-seen-requires c = tt
+
+pub loop-place-init : goal.loop-place-init
+loop-place-init c = record { seen = c.new-seen.ensures; lead = λ outcome h. h }
+
+pub bounds-agents-place : goal.bounds-agents-place
+bounds-agents-place c = c.loop-place-test.true
+
+pub bounds-names-place : goal.bounds-names-place
+bounds-names-place c =
+    let count : length c.args.names.now ≡ length c.args.agents.now = sym (length-map c.args.names.now (λ (v : Vec ℕ). v.items)) ∙ ap length c.requires ∙ length-map c.args.agents.now (text_value c.args.text.now) in
+    omega (arith, count, c.loop-place-test.true)
+
+pub see_agent-requires : goal.see_agent-requires
+see_agent-requires c = tt
+
+pub loop-place-smaller : goal.loop-place-smaller
+loop-place-smaller c = falls _ _ c.loop-place-test.true
+
+pub returns : goal.returns
+returns c = behind_end (repeated_agent_row c.args.text.now) c.args.agents.now _ c.loop-place.place c.loop-place-test.false c.loop-place.invariant.lead

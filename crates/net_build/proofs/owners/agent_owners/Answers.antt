@@ -1,5 +1,8 @@
 -- The names' own rows, and then those of their numbers.
-use Rattle.std.proofs.Common.{ℕ, Err, Ok, ap}
+use Rattle.net_build.specs.Blocks.{with_sights}
+use Rattle.net_build.proofs.OutOfMemory.{out_of_memory}
+use Rattle.std.proofs.lemmas.Result.{IfOk-from_err}
+use Rattle.std.proofs.Common.{ℕ, Err, Ok, ap, ◌∙◌}
 use Rattle.maid_model.specs.Names.{list_of}
 use Rattle.net_lexer.specs.declared.tokens.Token.{Token}
 use Rattle.net_build.specs.Table.{owner_rows}
@@ -20,3 +23,33 @@ pub returns-clause-rows : goal.returns-clause-rows
 returns-clause-rows c =
     owners_numbered c.args.text.now (list_of c.args.agents.now.items) c.args.block.now (list_of c.in_ok-names.names.items) c.title.result.start (Ok c.in_ok-numbers.numbers)
     c.in_ok-names.ensures.rows c.in_ok-names.ensures.names (ap (λ (t : Token). t.start) c.title.ensures) (rw c.deref.ensures.value at c.in_ok-numbers.ensures.rows)
+
+pub read_names-requires : goal.read_names-requires
+read_names-requires c = c.requires.own
+
+pub returns-in_err-names-clause-agents : goal.returns-in_err-names-clause-agents
+returns-in_err-names-clause-agents c = IfOk-from_err _ _ c.from_residual.ensures.0
+
+pub returns-in_err-names-clause-owners : goal.returns-in_err-names-clause-owners
+returns-in_err-names-clause-owners c = IfOk-from_err _ _ c.from_residual.ensures.0
+
+pub number_owners-requires : goal.number_owners-requires
+number_owners-requires c = tt
+
+pub returns-in_err-numbers-clause-agents : goal.returns-in_err-numbers-clause-agents
+returns-in_err-numbers-clause-agents c = IfOk-from_err _ _ c.from_residual-in_err-numbers.ensures.0
+
+pub returns-in_err-numbers-clause-owners : goal.returns-in_err-numbers-clause-owners
+returns-in_err-numbers-clause-owners c = IfOk-from_err _ _ c.from_residual-in_err-numbers.ensures.0
+
+pub returns-in_err-from_slice-clause-rows : goal.returns-in_err-from_slice-clause-rows
+returns-in_err-from_slice-clause-rows c = out_of_memory (owner_rows c.args.text.now (list_of c.args.agents.now.items) c.args.block.now) _ c.from_residual-in_err-from_slice.ensures
+
+pub returns-in_err-from_slice-clause-agents : goal.returns-in_err-from_slice-clause-agents
+returns-in_err-from_slice-clause-agents c = IfOk-from_err _ _ c.from_residual-in_err-from_slice.ensures.0
+
+pub returns-in_err-from_slice-clause-owners : goal.returns-in_err-from_slice-clause-owners
+returns-in_err-from_slice-clause-owners c = IfOk-from_err _ _ c.from_residual-in_err-from_slice.ensures.0
+
+pub returns-clause-agents : goal.returns-clause-agents
+returns-clause-agents c = c.in_ok-numbers.ensures.agents ∙ ap (with_sights (list_of c.args.agents.now.items)) (ap list_of c.deref.ensures.value ∙ c.in_ok-names.ensures.names)

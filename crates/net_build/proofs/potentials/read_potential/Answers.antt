@@ -1,10 +1,9 @@
 -- The rows of the head and of the names behind the bar, one after the other.
-use Rattle.std.proofs.Common.{◌≡◌, List, ℕ, All, drop, subst, sym, ◌∙◌, ap}
+use Rattle.std.proofs.Common.{All, subst, sym, ◌∙◌, ap}
 use Rattle.std.proofs.lemmas.List.Elements.{All-drop, All-weaker}
 use Rattle.first_fault.specs.Passes.{◌▸◌}
 use Rattle.first_fault.proofs.Leading.{refused_first, refused_later}
 use Rattle.net_lexer.specs.Token.{IsTokenOf}
-use Rattle.net_lexer.specs.declared.tokens.Token.{Token}
 use Rattle.net_parser.specs.Owned.{IsNameOf}
 use Rattle.net_build.specs.Blocks.{title, conditions}
 use Rattle.net_build.specs.Linking.{block_steps, borrowed_trees, conditions_steps, many_row, node_named, taken_row, unknown_row}

@@ -1,4 +1,7 @@
 -- A potential's rows are the first of those still to come, and it is entered where its head's name stands.
+use borrow.Author.Count.{falls}
+use Rattle.net_build.proofs.OutOfMemory.{out_of_memory}
+use Rattle.std.proofs.lemmas.Result.{IfOk-from_err}
 use Rattle.std.proofs.Common.{◌≡◌, ℕ, ◌<◌, ◌≤◌, true, false, List, [], length, get_or, All, Option, None, replicate, take, filter, sym, ap, subst, ◌∙◌}
 use Rattle.std.proofs.lemmas.List.{take_all, map-set, length-map}
 use Rattle.std.proofs.lemmas.List.Elements.{All-set}
@@ -12,7 +15,7 @@ use Rattle.net_build.specs.Linking.{borrowed_trees, behind_rows, potentials_step
 use Rattle.net_build.specs.Lists.{numbers_of_lists}
 use Rattle.net_build.proofs.LinkLemmas.{hands_on}
 use Rattle.net_build.proofs.LinkPasses.{length_among, length_in}
-use Rattle.first_fault.proofs.Leading.{after_refused, after_skip, after_step, leads_all, filter_front_no}
+use Rattle.first_fault.proofs.Leading.{after_refused, after_skip, after_step, leads_all, filter_front_no, after_end}
 use Rattle.net_build.proofs.PotentialLemmas.{no_trees, none_among, none_in, entered_from, parents_from}
 use Rattle.net_build.proofs.potentials.read_potentials.Goals as goal
 use Rattle.net_build.proofs.potentials.read_potentials.Goals.{then-is_potential+in_ok-node, else-is_potential}
@@ -111,3 +114,51 @@ returns-clause-parents c = c.loop-block.invariant.parents
 
 pub returns-clause-fit : goal.returns-clause-fit
 returns-clause-fit c = c.loop-block.invariant.fit
+
+pub returns-in_err-parents-clause-rows : goal.returns-in_err-parents-clause-rows
+returns-in_err-parents-clause-rows c = out_of_memory (potentials_steps c.args.text.now c.args.names.now c.args.heads.now c.args.syntax.now) _ c.from_residual.ensures
+
+pub returns-in_err-parents-clause-potentials : goal.returns-in_err-parents-clause-potentials
+returns-in_err-parents-clause-potentials c = IfOk-from_err _ _ c.from_residual.ensures.0
+
+pub returns-in_err-parents-clause-parents : goal.returns-in_err-parents-clause-parents
+returns-in_err-parents-clause-parents c = IfOk-from_err _ _ c.from_residual.ensures.0
+
+pub returns-in_err-parents-clause-fit : goal.returns-in_err-parents-clause-fit
+returns-in_err-parents-clause-fit c = IfOk-from_err _ _ c.from_residual.ensures.0
+
+pub returns-in_err-potentials-clause-rows : goal.returns-in_err-potentials-clause-rows
+returns-in_err-potentials-clause-rows c = out_of_memory (potentials_steps c.args.text.now c.args.names.now c.args.heads.now c.args.syntax.now) _ c.from_residual-in_err-potentials.ensures
+
+pub returns-in_err-potentials-clause-potentials : goal.returns-in_err-potentials-clause-potentials
+returns-in_err-potentials-clause-potentials c = IfOk-from_err _ _ c.from_residual-in_err-potentials.ensures.0
+
+pub returns-in_err-potentials-clause-parents : goal.returns-in_err-potentials-clause-parents
+returns-in_err-potentials-clause-parents c = IfOk-from_err _ _ c.from_residual-in_err-potentials.ensures.0
+
+pub returns-in_err-potentials-clause-fit : goal.returns-in_err-potentials-clause-fit
+returns-in_err-potentials-clause-fit c = IfOk-from_err _ _ c.from_residual-in_err-potentials.ensures.0
+
+pub bounds-block-items-block-index : goal.bounds-block-items-block-index
+bounds-block-items-block-index c = c.loop-block-test.true
+
+pub read_potential-requires-clause-heads : goal.read_potential-requires-clause-heads
+read_potential-requires-clause-heads c = c.requires.heads
+
+pub returns-in_err-node-clause-potentials : goal.returns-in_err-node-clause-potentials
+returns-in_err-node-clause-potentials c = IfOk-from_err _ _ c.from_residual-in_err-node.ensures.0
+
+pub returns-in_err-node-clause-parents : goal.returns-in_err-node-clause-parents
+returns-in_err-node-clause-parents c = IfOk-from_err _ _ c.from_residual-in_err-node.ensures.0
+
+pub returns-in_err-node-clause-fit : goal.returns-in_err-node-clause-fit
+returns-in_err-node-clause-fit c = IfOk-from_err _ _ c.from_residual-in_err-node.ensures.0
+
+pub loop-block-smaller : goal.loop-block-smaller
+loop-block-smaller c = falls _ _ c.loop-block-test.true
+
+pub returns-clause-rows : goal.returns-clause-rows
+returns-clause-rows c =
+    let blocks : c.deref-block-items.result.now ≡ c.args.syntax.now = c.deref-block-items.ensures.value ∙ c.syntax.view_is in
+    let end : length c.args.syntax.now ≤ c.loop-block.block-index = subst (λ (bs : List BlockTree). length bs ≤ c.loop-block.block-index) blocks c.loop-block-test.false in
+    after_end (behind_rows c.args.text.now c.args.names.now c.args.heads.now) (λ b. is_potential b.kind) c.args.syntax.now (potentials_steps c.args.text.now c.args.names.now c.args.heads.now c.args.syntax.now) c.loop-block.block-index end c.loop-block.invariant.lead
