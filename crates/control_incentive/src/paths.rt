@@ -45,7 +45,7 @@ fn led_from(diagram: &Diagram, kind: Kind, agent: usize) -> NodeSet
 }
 
 /// The nodes that bear on what the agent does and gets.
-#[derive(Clone, Copy, Debug)]
+#[derive(Clone, Copy)]
 pub(crate) struct Paths {
     /// In the trimmed diagram a path leads from these to a decision of the agent.
     pub(crate) respond: NodeSet,

@@ -3,7 +3,7 @@
 use crate::Status;
 
 /// The text for `out`, and the status that the run ends with once it is written.
-#[derive(Debug, Drop)]
+#[derive(Drop)]
 pub struct Output {
     /// The status: [`Status::Done`], or [`Status::Rejected`] of a verdict.
     pub status: Status,

@@ -8,7 +8,7 @@ use crate::{Status, lines};
 use std::alloc::{AllocError, AllocFailed};
 
 /// Why a run doesn't write the whole text of its form.
-#[derive(Debug, Drop)]
+#[derive(Drop)]
 pub enum Refusal {
     /// The words are of no form.
     Usage,

@@ -14,7 +14,7 @@ use maid_model::{Diagram, Kind, Names};
 use std::alloc::Global;
 
 /// A chance node and one of its states, by number.
-#[derive(Clone, Copy, Debug)]
+#[derive(Clone, Copy)]
 pub struct StatePlace {
     /// The node.
     pub node: usize,
