@@ -3,7 +3,9 @@
 ghost use Rattle.std.specs.Prelude.{◌≡◌, IfOk};
 ghost use Rattle.graph_tests.specs.Edits.{example, answer_of, answers};
 
-use diagram_graph::{AddFault, RemoveFault, add_arc, fix_others, make_decision, part, remove_arc};
+use diagram_graph::{
+    AddFault, MakeFault, RemoveFault, add_arc, fix_others, make_decision, part, remove_arc,
+};
 use maid_model::{Answer, Diagram, Kind, Row, Solved};
 use sample_diagrams::{chance, decision, sample_diagram, utility};
 use std::alloc::{AllocError, Global};
@@ -23,38 +25,72 @@ fn diagram(alloc: Global) -> Result<Diagram, AllocError>
     sample_diagram(alloc, &nodes, 2, 0)
 }
 
-// Without its arc the first chance node is no ancestor of the utility, so the part has the second and the decision.
+/// Whether the diagram without the first node's arc has the decision see the second node alone, and the part that leads to the
+/// utility has that node, the decision and the utility.
+fn is_cut(alloc: Global) -> Result<bool, RemoveFault> {
+    let whole = diagram(alloc)?;
+    let less = remove_arc(alloc, &whole, 0, 2)?;
+    let below = part(alloc, &less, &[4])?;
+    let left = &below.diagram;
+    Ok(
+        less.parents(2) == [1].as_slice()
+            && below.nodes.as_slice() == [1, 2, 4].as_slice()
+            && left.count() == 3
+            && left.cells(0) == [1, 3].as_slice()
+            && left.parents(1) == [0].as_slice()
+            && left.parents(2) == [1].as_slice(),
+    )
+}
+
 #[test]
 fn removes_an_arc_and_takes_a_part(rt: HostRuntime) -> Result<(), Fail> {
-    let alloc = rt.alloc();
-    let whole = diagram(alloc)?;
-    let absent = remove_arc(alloc, &whole, 3, 2);
-    assert!(rt; matches!(absent, Err(RemoveFault::NotPresent)));
-    let less = remove_arc(alloc, &whole, 0, 2)?;
-    assert_eq!(rt; less.parents(2), [1].as_slice());
-    let below = part(alloc, &less, &[4])?;
-    assert_eq!(rt; below.nodes.as_slice(), [1, 2, 4].as_slice());
-    assert_eq!(rt; below.diagram.count(), 3);
-    assert_eq!(rt; below.diagram.cells(0), [1, 3].as_slice());
-    assert_eq!(rt; below.diagram.parents(1), [0].as_slice());
-    assert_eq!(rt; below.diagram.parents(2), [1].as_slice());
+    assert!(rt; is_cut(rt.alloc())?);
     Ok(())
+}
+
+#[test]
+fn an_absent_arc_is_not_removed(rt: HostRuntime) -> Result<(), Fail> {
+    let alloc = rt.alloc();
+    let absent = remove_arc(alloc, &diagram(alloc)?, 3, 2);
+    assert!(rt; matches!(absent, Err(RemoveFault::NotPresent)));
+    Ok(())
+}
+
+/// Why the arcs from its first parent and from itself can't be added to the first decision, if they can't.
+fn faults(alloc: Global) -> Result<[Option<AddFault>; 2], AllocError> {
+    let whole = diagram(alloc)?;
+    Ok([
+        add_arc(alloc, &whole, 0, 2).err(),
+        add_arc(alloc, &whole, 2, 2).err(),
+    ])
+}
+
+#[test]
+fn an_arc_can_not_be_added(rt: HostRuntime) -> Result<(), Fail> {
+    let expected = [Some(AddFault::Present), Some(AddFault::WouldCycle)];
+    assert_eq!(rt; faults(rt.alloc())?, expected);
+    Ok(())
+}
+
+/// Whether the first decision sees the rival's choice too once the arc is added.
+fn is_added(alloc: Global) -> Result<bool, AddFault> {
+    let whole = diagram(alloc)?;
+    let more = add_arc(alloc, &whole, 3, 2)?;
+    Ok(more.parents(2) == [0, 1, 3].as_slice())
+}
+
+/// Whether the second chance node becomes a decision of the rival.
+fn is_given(alloc: Global) -> Result<bool, MakeFault> {
+    let whole = diagram(alloc)?;
+    let made = make_decision(alloc, &whole, 1, 1)?;
+    Ok(made.kind(1) == Kind::Decision && made.agent_of(1) == 1 && made.cells(1).is_empty())
 }
 
 #[test]
 fn adds_an_arc_and_gives_control(rt: HostRuntime) -> Result<(), Fail> {
     let alloc = rt.alloc();
-    let whole = diagram(alloc)?;
-    let present = add_arc(alloc, &whole, 0, 2);
-    assert!(rt; matches!(present, Err(AddFault::Present)));
-    let itself = add_arc(alloc, &whole, 2, 2);
-    assert!(rt; matches!(itself, Err(AddFault::WouldCycle)));
-    let more = add_arc(alloc, &whole, 3, 2)?;
-    assert_eq!(rt; more.parents(2), [0, 1, 3].as_slice());
-    let made = make_decision(alloc, &whole, 1, 1)?;
-    assert!(rt; made.kind(1) == Kind::Decision);
-    assert_eq!(rt; made.agent_of(1), 1);
-    assert!(rt; made.cells(1).is_empty());
+    assert!(rt; is_added(alloc)?);
+    assert!(rt; is_given(alloc)?);
     Ok(())
 }
 
@@ -85,15 +121,21 @@ fn solved(alloc: Global) -> Result<Solved, AllocError>
     })
 }
 
-#[test]
-fn fixes_the_rivals_decision(rt: HostRuntime) -> Result<(), Fail> {
-    let alloc = rt.alloc();
+/// Whether the rival's decision becomes a chance node that tells its rule, and the first one stays a decision.
+fn is_fixed(alloc: Global) -> Result<bool, AllocError> {
     let whole = diagram(alloc)?;
     let solved = solved(alloc)?;
     let alone = fix_others(alloc, &whole, 0, &solved)?;
-    assert!(rt; alone.kind(2) == Kind::Decision);
-    assert!(rt; alone.kind(3) == Kind::Chance);
-    assert_eq!(rt; alone.cells(3), [0, 1, 1, 0].as_slice());
-    assert_eq!(rt; alone.parents(3), [1].as_slice());
+    Ok(
+        alone.kind(2) == Kind::Decision
+            && alone.kind(3) == Kind::Chance
+            && alone.cells(3) == [0, 1, 1, 0].as_slice()
+            && alone.parents(3) == [1].as_slice(),
+    )
+}
+
+#[test]
+fn fixes_the_rivals_decision(rt: HostRuntime) -> Result<(), Fail> {
+    assert!(rt; is_fixed(rt.alloc())?);
     Ok(())
 }

@@ -28,23 +28,33 @@ fn pair(alloc: Global, sees: bool) -> Result<Diagram, AllocError>
     sample_diagram(alloc, &nodes, 1, 0)
 }
 
+/// Whether the first choice relies on the second and the second on the first as told, and what order or cycle that leaves.
+fn is_found(
+    alloc: Global,
+    sees: bool,
+    relies: [bool; 2],
+    order: Result<&[usize], &[usize]>,
+) -> Result<bool, AllocError> {
+    let diagram = pair(alloc, sees)?;
+    let found = find_relevance(alloc, &diagram)?;
+    let on_the_utility = found.relies(0, 2);
+    let between = [found.relies(0, 1), found.relies(1, 0)];
+    Ok(!on_the_utility && between == relies && found.order() == order)
+}
+
 #[test]
 fn choices_rely_on_what_they_do_not_see(rt: HostRuntime) -> Result<(), Fail> {
     let alloc = rt.alloc();
-    let diagram = pair(alloc, false)?;
-    let blind = find_relevance(alloc, &diagram)?;
-    assert!(rt; blind.relies(0, 1));
-    assert!(rt; blind.relies(1, 0));
-    assert!(rt; !blind.relies(0, 2));
-    assert_eq!(rt; blind.order().err().ok_or("an order")?, [0, 1].as_slice());
+    assert!(rt; is_found(alloc, false, [true, true], Err(&[0, 1]))?);
+    assert!(rt; is_found(alloc, true, [true, false], Ok(&[1, 0]))?);
+    Ok(())
+}
+
+#[test]
+fn parents_come_first(rt: HostRuntime) -> Result<(), Fail> {
+    let alloc = rt.alloc();
     let diagram = pair(alloc, true)?;
-    assert_eq!(rt;
-        topological(alloc, &diagram)?.as_slice(),
-        [0, 1, 2].as_slice()
-    );
-    let sighted = find_relevance(alloc, &diagram)?;
-    assert!(rt; sighted.relies(0, 1));
-    assert!(rt; !sighted.relies(1, 0));
-    assert_eq!(rt; sighted.order().ok().ok_or("a cycle")?, [1, 0].as_slice());
+    let order = topological(alloc, &diagram)?;
+    assert_eq!(rt; order.as_slice(), [0, 1, 2].as_slice());
     Ok(())
 }
