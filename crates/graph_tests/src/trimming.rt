@@ -46,7 +46,7 @@ fn diagram(alloc: Global, sure: bool, forced: bool, rival: bool) -> Result<Diagr
     sample_diagram(alloc, &nodes, 2, 0)
 }
 
-/// Whether trimming removes these arcs in this order, and then no more.
+/// Whether trimming removes these arcs in this order, and no node, and then no more.
 fn is_trimmed(
     alloc: Global,
     whole: &Diagram,
@@ -54,7 +54,11 @@ fn is_trimmed(
 ) -> Result<bool, AllocError> {
     let trimmed = trim(alloc, whole)?;
     let again = trim(alloc, &trimmed.diagram)?;
-    Ok(trimmed.removed.as_slice() == removed && again.removed.is_empty())
+    Ok(
+        trimmed.removed.as_slice() == removed
+            && trimmed.diagram.count() == whole.count()
+            && again.removed.is_empty(),
+    )
 }
 
 // The first decision needs the chance node only as long as the second one tells of it. An arc from a node of one state
