@@ -274,3 +274,13 @@ abbrev pub AllStayLiveBehind :
     {C : Type 0} → Ring C → List NodeView → List C → List C → ℕ → Strip → Type 0
 AllStayLiveBehind r nodes before after used strip =
     AllStayLive r nodes (space before used).cells (space after (used + strip.len)).cells
+
+-- a slot's cells are moved behind the used ones: a strip is appended, which has them in the new
+-- order, and what was live stays so
+pub record MovesBehind {C : Type 0}
+    (r : Ring C) (d : DiagramView) (vs : List ℕ) (slot : Slot)
+    (before after : List C) (used : ℕ) (strip : Strip) : Type 0
+  where
+    pub appends : AppendsStripBehind before after used strip
+    pub cells : WritesStrip r d vs slot before after used strip
+    pub stays : AllStayLiveBehind r d.nodes before after used strip

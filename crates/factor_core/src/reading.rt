@@ -7,10 +7,9 @@ ghost use Rattle.factor_core.specs.Tables.{AreCounts, AreScopeStates, size_of, I
 
 use crate::orders::counted;
 use crate::slots::Slot;
-use crate::states::list_states;
-use crate::walks::before;
+use crate::states::StateCounts;
 use cell_rings::Cell;
-use maid_model::{Diagram, MOST_NODES};
+use maid_model::Diagram;
 use node_sets::NodeSet;
 
 /// The place with one state more, where the node is held.
@@ -59,8 +58,6 @@ pub fn read_cell<C: Cell>(
     requires states { AreStatesOf diagram.now.nodes slot.now states.now }
     ensures { IsCellAt C.ring diagram.now.nodes (take used all.now) slot.now states.now result }
 {
-    let mut counts = [1; MOST_NODES];
-    list_states(&mut counts, diagram);
-    let counts = before(&counts, diagram.count());
-    all[slot.start + place_for(counts, &slot.scope, states)]
+    let counts = StateCounts::of(diagram);
+    all[slot.start + place_for(counts.as_slice(), &slot.scope, states)]
 }

@@ -6,7 +6,7 @@ ghost use Rattle.node_sets.specs.declared.sets.TheConstants.{MOST_NODES};
 ghost use Rattle.node_sets.specs.Sets.{holds, IsIn};
 ghost use Rattle.maid_model.specs.Graph.{AllDifferent};
 ghost use Rattle.maid_model.specs.Nodes.{states_of};
-ghost use Rattle.factor_core.specs.Slots.{space, IsLiveSlot, HasSpareForState, WritesState, WritesStrip, AllStayLiveBehind, AppendsStripBehind};
+ghost use Rattle.factor_core.specs.Slots.{space, IsLiveSlot, HasSpareForState, WritesState, MovesBehind};
 ghost use Rattle.factor_core.specs.Tables.{AreCounts, size_of, stride_over};
 
 use crate::copies::{Step, copy_at};
@@ -14,7 +14,7 @@ use crate::orders::list_nodes;
 use crate::setting::set_steps;
 use crate::sizes::{stride, table_size};
 use crate::slots::{Slot, Strip};
-use crate::states::list_states;
+use crate::states::StateCounts;
 use crate::walks::before;
 use cell_rings::Cell;
 use maid_model::{Diagram, MOST_NODES};
@@ -66,9 +66,8 @@ pub fn restrict_behind<C: Cell>(
     ensures len { used + result.len ≤ length all.new }
     ensures table { WritesState C.ring diagram.now node state slot.now all.old all.new used result }
 {
-    let mut counts = [1; MOST_NODES];
-    list_states(&mut counts, diagram);
-    let counts = before(&counts, diagram.count());
+    let counts = StateCounts::of(diagram);
+    let counts = counts.as_slice();
     let scope = without(&slot.scope, node);
     let len = table_size(counts, &scope);
     let mut order = [0; MOST_NODES + 1];
@@ -105,13 +104,10 @@ pub fn reorder_behind<C: Cell>(
     ensures start { result.start ≡ used }
     ensures len { used + result.len ≤ length all.new }
     ensures same { result.len ≡ slot.now.len }
-    ensures appends { AppendsStripBehind all.old all.new used result }
-    ensures cells { WritesStrip C.ring diagram.now nodes.now slot.now all.old all.new used result }
-    ensures stays { AllStayLiveBehind C.ring diagram.now.nodes all.old all.new used result }
+    ensures moves { MovesBehind C.ring diagram.now nodes.now slot.now all.old all.new used result }
 {
-    let mut counts = [1; MOST_NODES];
-    list_states(&mut counts, diagram);
-    let counts = before(&counts, diagram.count());
+    let counts = StateCounts::of(diagram);
+    let counts = counts.as_slice();
     let mut steps = [Step {
         states: 1,
         stride: 0,

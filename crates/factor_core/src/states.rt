@@ -10,7 +10,7 @@ use maid_model::{Diagram, MOST_NODES};
 use std::marker::Model;
 
 /// Writes how many states each node has.
-pub fn list_states(counts: &mut [usize], diagram: &Diagram)
+fn list_states(counts: &mut [usize], diagram: &Diagram)
     requires { length counts.old ≡ MOST_NODES }
     ensures { take (length diagram.now.nodes) counts.new ≡ counts_of diagram.now.nodes }
 {

@@ -1,4 +1,4 @@
-use Rattle.std.proofs.Common.{◌≡◌, length, drop, [], arith, refl, sym, ◌∙◌}
+use Rattle.std.proofs.Common.{length, drop, [], arith, refl, sym, ◌∙◌}
 use Rattle.cell_rings.specs.Rings.{mass_ring}
 use Rattle.cell_rings.specs.Sums.{product_at, sizes_of}
 use Rattle.cell_rings.proofs.Runs.{chosen}

@@ -1,4 +1,4 @@
-use Rattle.std.proofs.Common.{rules, ◌≡◌, ◌∷◌, [], arith, refl, sym, ◌∙◌}
+use Rattle.std.proofs.Common.{rules, ◌∷◌, [], arith, refl, sym, ◌∙◌}
 use Rattle.factor_core.proofs.Shifts.{shifted_none}
 use Rattle.factor_core.proofs.Walking.{place_fits, advance_fits, advanced, can_next, adds_first, adds_next, adds_all, still_enough}
 use Rattle.factor_core.proofs.Ends.{same_end}

@@ -1,6 +1,5 @@
 use Rattle.std.proofs.Common.{◌+◌, ◌≤◌, ap, sym, subst, ◌∙◌}
 use Rattle.std.proofs.lemmas.List.{get_or_read}
-use Rattle.cell_rings.specs.Sums.{cell_at}
 use Rattle.cell_rings.proofs.Runs.{put_adds}
 use Rattle.factor_core.proofs.walks.add_at.Goals as goal
 

@@ -1,4 +1,4 @@
-use Rattle.std.proofs.Common.{◌≡◌, ◌≤◌, length, get_or, arith, sym, ap, subst, ◌∙◌}
+use Rattle.std.proofs.Common.{◌≡◌, ◌≤◌, get_or, arith, sym, ap, subst, ◌∙◌}
 use Rattle.cell_rings.specs.Rings.{mass_ring}
 use Rattle.cell_rings.specs.Sums.{ring_sum, product_from, sizes_of, ProductFits}
 use Rattle.factor_core.specs.Walks.{further, sum_along}

@@ -1,4 +1,4 @@
-use Rattle.std.proofs.Common.{◌≡◌, ◌≤◌, get_or, arith, ap, sym, subst}
+use Rattle.std.proofs.Common.{◌≤◌, get_or, arith, ap, sym, subst}
 use Rattle.std.proofs.lemmas.List.{get_or_read}
 use Rattle.cell_rings.specs.Rings.{mass_ring}
 use Rattle.cell_rings.specs.Sums.{product_from, product_at, sizes_of}

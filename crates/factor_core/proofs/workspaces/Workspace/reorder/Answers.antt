@@ -40,17 +40,17 @@ invariant_of-self g c = (omega (arith, c.reorder_behind-strip.ensures.len, c.reo
 pub returns-clause-appends : goal.returns-clause-appends
 returns-clause-appends g c =
     let is = as_space c.args.self.now c.self.inside.cells.items c.blank.new.cells.items c.as_mut_slice.result.now c.self.inside.used c.self.inside.room c.self.view_is (c.blank.ensures.first c.self.inside.used c.self.invariant.0) c.as_mut_slice.ensures.value (c.as_mut_slice.ensures.len ∙ c.blank.ensures.len) in
-    as_views (λ s t. Appends s t c.reorder_behind-strip.result.start c.reorder_behind-strip.result.len) c.args.self.now c.as_mut_slice.result.now c.reorder_behind-strip.new.all c.blank.new.cells c.self.inside.used (c.self.inside.used + c.reorder_behind-strip.result.len) c.self.inside.room is (c.reorder_behind-strip.auto.all ∙ c.as_mut_slice.ensures.len) c.blank.ensures.len c.reorder_behind-strip.ensures.appends
+    as_views (λ s t. Appends s t c.reorder_behind-strip.result.start c.reorder_behind-strip.result.len) c.args.self.now c.as_mut_slice.result.now c.reorder_behind-strip.new.all c.blank.new.cells c.self.inside.used (c.self.inside.used + c.reorder_behind-strip.result.len) c.self.inside.room is (c.reorder_behind-strip.auto.all ∙ c.as_mut_slice.ensures.len) c.blank.ensures.len c.reorder_behind-strip.ensures.moves.appends
 
 pub returns-clause-cells : goal.returns-clause-cells
 returns-clause-cells g c =
     let is = as_space c.args.self.now c.self.inside.cells.items c.blank.new.cells.items c.as_mut_slice.result.now c.self.inside.used c.self.inside.room c.self.view_is (c.blank.ensures.first c.self.inside.used c.self.invariant.0) c.as_mut_slice.ensures.value (c.as_mut_slice.ensures.len ∙ c.blank.ensures.len) in
-    as_views (λ s t. HasCellsOf g.C.Cell.ring c.args.diagram.now c.args.nodes.now c.args.slot.now s t c.reorder_behind-strip.result) c.args.self.now c.as_mut_slice.result.now c.reorder_behind-strip.new.all c.blank.new.cells c.self.inside.used (c.self.inside.used + c.reorder_behind-strip.result.len) c.self.inside.room is (c.reorder_behind-strip.auto.all ∙ c.as_mut_slice.ensures.len) c.blank.ensures.len c.reorder_behind-strip.ensures.cells
+    as_views (λ s t. HasCellsOf g.C.Cell.ring c.args.diagram.now c.args.nodes.now c.args.slot.now s t c.reorder_behind-strip.result) c.args.self.now c.as_mut_slice.result.now c.reorder_behind-strip.new.all c.blank.new.cells c.self.inside.used (c.self.inside.used + c.reorder_behind-strip.result.len) c.self.inside.room is (c.reorder_behind-strip.auto.all ∙ c.as_mut_slice.ensures.len) c.blank.ensures.len c.reorder_behind-strip.ensures.moves.cells
 
 pub returns-clause-stays : goal.returns-clause-stays
 returns-clause-stays g c =
     let is = as_space c.args.self.now c.self.inside.cells.items c.blank.new.cells.items c.as_mut_slice.result.now c.self.inside.used c.self.inside.room c.self.view_is (c.blank.ensures.first c.self.inside.used c.self.invariant.0) c.as_mut_slice.ensures.value (c.as_mut_slice.ensures.len ∙ c.blank.ensures.len) in
-    as_views (λ s t. AllStayLive g.C.Cell.ring c.args.diagram.now.nodes s.cells t.cells) c.args.self.now c.as_mut_slice.result.now c.reorder_behind-strip.new.all c.blank.new.cells c.self.inside.used (c.self.inside.used + c.reorder_behind-strip.result.len) c.self.inside.room is (c.reorder_behind-strip.auto.all ∙ c.as_mut_slice.ensures.len) c.blank.ensures.len c.reorder_behind-strip.ensures.stays
+    as_views (λ s t. AllStayLive g.C.Cell.ring c.args.diagram.now.nodes s.cells t.cells) c.args.self.now c.as_mut_slice.result.now c.reorder_behind-strip.new.all c.blank.new.cells c.self.inside.used (c.self.inside.used + c.reorder_behind-strip.result.len) c.self.inside.room is (c.reorder_behind-strip.auto.all ∙ c.as_mut_slice.ensures.len) c.blank.ensures.len c.reorder_behind-strip.ensures.moves.stays
 
 pub returns-clause-len : goal.returns-clause-len
 returns-clause-len g c = c.reorder_behind-strip.ensures.same
