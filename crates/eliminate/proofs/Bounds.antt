@@ -1,11 +1,10 @@
 -- Bounds of a run's lists, over plain lists: what its calls ask of the slots made and gathered.
-use Rattle.std.proofs.Common.{◌≡◌, ◌∙◌, ◌↔◌, ℕ, ◌-◌, ◌<◌, ◌≤◌, Bool, List, take, length, slice_index_or, ap, arith}
+use Rattle.std.proofs.Common.{◌≡◌, ◌∙◌, ◌↔◌, ℕ, zero, suc, ◌<◌, ◌≤◌, Bool, List, [], ◌∷◌, take, length, slice_index_or, ap, arith}
 use Rattle.std.proofs.lemmas.List.{length-take-le}
 use Rattle.node_sets.specs.declared.sets.NodeSet.{NodeSet}
 use Rattle.node_sets.specs.Sets.{holds, IsIn}
 use Rattle.factor_core.specs.declared.slots.Slot.{Slot}
-use Rattle.eliminate.specs.declared.counts.Limits.{Limits}
-use Rattle.eliminate.specs.Places.{slots_from, live_slots, Noted}
+use Rattle.eliminate.specs.Places.{slots_from, live_slots, IsBoard}
 use Rattle.eliminate.specs.Steps.{slots_with}
 use Rattle.eliminate.proofs.Placing.{held_slots}
 
@@ -50,21 +49,22 @@ module _ (made : ℕ) (slots front : List Slot) (is : front ≡ take made slots)
       pub found_few : (last : List Slot) → last ≡ take count found → (most : ℕ) → length slots ≤ most → length last ≤ most
       found_few last e most bound = omega (arith, found_many last e, few, front_few most bound)
 
+-- so many of a list are no more
+pub at_most : (count most : ℕ) (found : List Slot) {last : List Slot} → last ≡ take count found → count ≤ most → length last ≤ most
+at_most count most found e few = omega (arith, ap length e, taken count found, few)
+  where
+    taken : (n : ℕ) (xs : List Slot) → length (take n xs) ≤ n
+    taken zero xs = omega arith
+    taken (suc n) [] = omega arith
+    taken (suc n) (x ∷ xs) = omega (arith, taken n xs)
+
 -- what was gathered from them
 pub gathered : (p : ℕ → Bool) (made : ℕ) (slots front found last : List Slot) → front ≡ take made slots → found ≡ slots_from p 0 front → last ≡ found → last ≡ slots_from p 0 (take made slots)
 gathered p made slots front found last is list e = e ∙ list ∙ ap (slots_from p 0) is
 
 -- and where that is at the node's places
-pub gathered_with : (at : List NodeSet) (live held : NodeSet) (made node : ℕ) (slots front found last : List Slot) → node < length at → Noted at (take made slots)
+pub gathered_with : {at : List NodeSet} {slots : List Slot} {live : NodeSet} {made : ℕ} (board : IsBoard at slots live made) (node : ℕ) (held : NodeSet) → node < length at
     → ((k : ℕ) (none : NodeSet) → IsIn held k ↔ (IsIn live k × IsIn (slice_index_or at node none) k))
-    → front ≡ take made slots → found ≡ slots_from (holds held) 0 front → last ≡ found → last ≡ slots_with node (live_slots live made slots)
-gathered_with at live held made node slots front found last small noted are is list e =
-    gathered (holds held) made slots front found last is list e ∙ held_slots at live held made node slots small noted are
-
--- what is left of the limits, where so much is taken
-module _ (next left : Limits) (cells work : ℕ) (is : next ≡ record { cells = left.cells - cells; work = left.work - work }) where
-  pub cells_left : (n : ℕ) → cells ≡ n → next.cells ≡ left.cells - n
-  cells_left n e = ap (λ (l : Limits). l.cells) is ∙ ap (λ k. left.cells - k) e
-
-  pub work_left : next.work ≡ left.work - work
-  work_left = ap (λ (l : Limits). l.work) is
+    → {front found last : List Slot} → front ≡ take made slots → found ≡ slots_from (holds held) 0 front → last ≡ found → last ≡ slots_with node (live_slots live made slots)
+gathered_with {at} {slots} {live} {made} board node held small are {front} {found} {last} is list e =
+    gathered (holds held) made slots front found last is list e ∙ held_slots at live held made node slots small board.noted are

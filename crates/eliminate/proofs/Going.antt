@@ -121,8 +121,8 @@ module _ {C : Type 0} (r : Ring C) (h : IsRing r) (nodes : List NodeView) (befor
 
 -- the next step, by its place
 pub at_place : {C : Type 0} (r : Ring C) (nodes : List NodeView) (before now : WorkspaceView C) (slots : List Slot) (i : ℕ) (steps : List ℕ) (first : List (Table C)) (cells : ℕ)
-    → i < length steps → Between r nodes before now slots (drop i steps) steps first cells → Between r nodes before now slots (slice_index steps i ∷ drop (i + 1) steps) steps first cells
-at_place r nodes before now slots i steps first cells l b =
+    → Between r nodes before now slots (drop i steps) steps first cells → i < length steps → Between r nodes before now slots (slice_index steps i ∷ drop (i + 1) steps) steps first cells
+at_place r nodes before now slots i steps first cells b l =
     subst (λ k. Between r nodes before now slots (slice_index steps i ∷ drop k steps) steps first cells) (next i) (subst (λ z. Between r nodes before now slots z steps first cells) (drop-cons steps i 0 l) b)
   where
     next : (i : ℕ) → suc i ≡ i + 1

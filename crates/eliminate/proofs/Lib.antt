@@ -1,4 +1,3 @@
-pub mod Listing
 pub mod Stepping
 pub mod Placing
 pub mod Numbers
@@ -12,3 +11,5 @@ pub mod Whole
 pub mod Scoped
 pub mod Within
 pub mod Bounds
+pub mod Multiplying
+pub mod Growing

@@ -1,12 +1,7 @@
--- One step over stored tables.
-use Rattle.std.proofs.Common.{◌≡◌, ◌∙◌, ℕ, suc, ◌+◌, ◌<◌, ◌≤◌, Bool, true, filter, List, [], ◌∷◌, ◌++◌, take, length, set, ap, arith, All}
-use Rattle.std.proofs.Math.Seq.{take-suc-set}
-use Rattle.std.proofs.lemmas.List.{length-take-le}
-use Rattle.node_sets.specs.Sets.{holds}
+-- The parts of a list that a test leaves, as one step over stored tables takes them.
+use Rattle.std.proofs.Common.{◌≡◌, ◌+◌, ◌<◌, ◌≤◌, Bool, true, not, filter, List, [], ◌∷◌, length, refl, arith, All}
+use Rattle.std.proofs.lemmas.List.Filters.{length-filter_both}
 use Rattle.ring_sums.proofs.Each.{Each, each_of, all_of, each_map, each_filter}
-use Rattle.factor_core.specs.declared.slots.Slot.{Slot}
-use Rattle.eliminate.specs.Steps.{slots_with, slots_without}
-use Rattle.eliminate.proofs.Listing.{fewer}
 
 -- a part of what all have
 pub all_filter : {X : Type 0} (P : X → Type 0) (p : X → Bool) (xs : List X) → All P xs → All P (filter p xs)
@@ -20,11 +15,6 @@ all_pass {X} p xs = all_of (λ x. p x ≡ true) (filter p xs) (each_map (λ x. U
     units [] = tt
     units (y ∷ ys) = (tt, units ys)
 
--- where one of the first slots leaves, there is a place for the next
-pub place_left : (live new : List Slot) (count left v : ℕ) → count ≤ length live → length new ≡ length live → left ≤ count → take left new ≡ slots_without v (take count live) → 0 < length (slots_with v (take count live)) → left + 1 ≤ count
-place_left live new count left v within same few is some =
-    omega (arith, fewer (λ s. holds s.scope v) (take count live) some, ap length is, length-take-le left new (omega arith), length-take-le count live within)
-
--- the new slot stands behind them
-pub put_behind : {X : Type 0} (xs : List X) (n : ℕ) (x : X) → n < length xs → take (n + 1) (set xs n x) ≡ take n xs ++ x ∷ []
-put_behind xs n x l = (let e : n + 1 ≡ suc n = omega arith in ap (λ k. take k (set xs n x)) e) ∙ take-suc-set xs n x l
+-- where one leaves, there is a place
+pub fewer : {X : Type 0} (p : X → Bool) (xs : List X) → 0 < length (filter p xs) → length (filter (λ x. not (p x)) xs) + 1 ≤ length xs
+fewer p xs some = omega (arith, length-filter_both p (λ x. not (p x)) (λ x. refl) xs)

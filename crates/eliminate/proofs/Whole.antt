@@ -1,8 +1,8 @@
 -- The whole run of a plan: what its count of cells says, its start and its end.
-use Rattle.std.proofs.Common.{◌≡◌, ◌∙◌, ℕ, ◌+◌, ◌*◌, ◌<◌, ◌≤◌, Bool, true, false, cond, ◌||◌, map, List, [], ◌∷◌, ◌++◌, length, refl, sym, ap, subst, inl, inr, arith, Option, Some, None, option_to_list}
+use Rattle.std.proofs.Common.{◌≡◌, ◌∙◌, ℕ, ◌+◌, ◌*◌, ◌<◌, ◌≤◌, Bool, true, false, cond, ◌||◌, map, List, [], ◌∷◌, ◌++◌, drop, length, slice_index, refl, sym, ap, subst, inl, inr, arith, Option, Some, None, option_to_list}
 use Rattle.std.specs.List.{sum_by, AllZip}
 use Rattle.std.proofs.Math.Path.{fun_ext}
-use Rattle.std.proofs.lemmas.List.{append-nil}
+use Rattle.std.proofs.lemmas.List.{append-nil, drop_all}
 use Rattle.std.proofs.lemmas.List.Sums.{sum_by-cons}
 use Rattle.finite_sums.specs.Members.{Among}
 use Rattle.maid_model.specs.declared.limits.TheConstants.{COUNT_END}
@@ -22,12 +22,13 @@ use Rattle.plan_sums.proofs.Scopes.{plans_keep}
 use Rattle.plan_sums.proofs.Sized.{plans_fit, plans_hold, ruled_in, in_plan_kind}
 use Rattle.factor_core.specs.declared.slots.Slot.{Slot}
 use Rattle.factor_core.specs.Operations.{first_table, product_table}
-use Rattle.factor_core.specs.Slots.{WorkspaceView, cells_over, tables_of, Appends, AppendsTable}
+use Rattle.factor_core.specs.Slots.{WorkspaceView, cells_over, tables_of, Appends, AppendsProduct}
 use Rattle.size_precheck.specs.Counts.{counted_cells}
 use Rattle.size_precheck.specs.Greedy.{first_scopes}
 use Rattle.size_precheck.specs.Sizes.{SizedPlan, CanBePlanned, IsMade, made_cells}
 use Rattle.eliminate.specs.Results.{plan_total, SumsPlan}
-use Rattle.eliminate.specs.Steps.{first_nodes, first_cells, Stand, Lists, Between}
+use Rattle.eliminate.specs.Steps.{first_nodes, first_cells, GiveWay, CanJoinOut, Stand, Lists, Between}
+use Rattle.eliminate.proofs.Going.{can_join, goes_on, at_place}
 use Rattle.eliminate.proofs.Numbers.{bound_fits}
 use Rattle.eliminate.proofs.Ruled.{has_contains}
 use Rattle.eliminate.proofs.Sizes.{cells_exact, sum_exact, sums_exact}
@@ -47,7 +48,7 @@ sum_map f g [] = refl
 sum_map f g (x ∷ xs) = sum_by-cons g (f x) (map f xs) ∙ ap (λ n. g (f x) + n) (sum_map f g xs) ∙ sym (sum_by-cons (λ y. g (f y)) x xs)
 
 -- tables that are the same have one joined scope
-same_joined : {C : Type 0} (count : ℕ → ℕ) (ts us : List (Table C)) (v : ℕ) → AllZip (IsSame count) ts us → joined ts v ≡ joined us v
+pub same_joined : {C : Type 0} (count : ℕ → ℕ) (ts us : List (Table C)) (v : ℕ) → AllZip (IsSame count) ts us → joined ts v ≡ joined us v
 same_joined count [] [] v m = refl
 same_joined count [] (u ∷ us) v m = absurd m
 same_joined count (t ∷ ts) [] v m = absurd m
@@ -105,85 +106,117 @@ module _ (nodes : List NodeView) (made : SizedPlan) where
   abbrev pub so_many : ℕ
   so_many = firsts + made_cells nodes made.steps (first_scopes nodes made.plan)
 
-module _ {C : Type 0} (c : Cells C) (h : IsRing c.ring) (sized : IsSize c.ring c.ring.size) (are : AreSized c c.ring.size) (nodes : List NodeView) (p : List RuleView) (made : SizedPlan)
-    (asked : CanBePlanned nodes made.plan) (is : IsMade nodes made.plan made) (counted : made.size.cells < COUNT_END) where
+module _ {C : Type 0} (c : Cells C) (nodes : List NodeView) (p : List RuleView) (made : SizedPlan) (asked : CanBePlanned nodes made.plan) (is : IsMade nodes made.plan made) (counted : made.size.cells < COUNT_END) where
   whole : so_many nodes made + counted_cells nodes (has made.plan.keep) ≡ made.size.cells
   whole = sum_exact (so_many nodes made + counted_cells nodes (has made.plan.keep)) (subst (λ n. n < COUNT_END) is.cells counted) ∙ sym is.cells
-
-  last_exact : counted_cells nodes (has made.plan.keep) ≡ cells_over nodes (has made.plan.keep)
-  last_exact = cells_exact nodes (has made.plan.keep) (omega (arith, whole, counted))
 
   firsts_exact : sum_by (first_cells c nodes p) (first_nodes nodes made.plan) ≡ firsts nodes made
   firsts_exact =
       let told = sym (sum_map (λ v. (first_table c nodes p v).holds) (counted_cells nodes) (first_nodes nodes made.plan)) ∙ ap (sum_by (counted_cells nodes)) (scopes_listed c nodes p made.plan asked.is_plan) in
       sym (sums_exact nodes (λ v. (first_table c nodes p v).holds) (first_nodes nodes made.plan) (omega (arith, told, whole, counted))) ∙ told
 
-  pub steps_counted : so_many nodes made < COUNT_END
-  steps_counted = omega (arith, whole, counted)
-
-  pub steps_room : (spare : ℕ) → made.size.cells ≤ spare → so_many nodes made ≤ spare
-  steps_room spare l = omega (arith, whole, l)
-
   pub firsts_room : (spare : ℕ) → made.size.cells ≤ spare → sum_by (first_cells c nodes p) (first_nodes nodes made.plan) ≤ spare
   firsts_room spare l = omega (arith, whole, l, firsts_exact)
 
-  -- ---- the start
-  module _ (graph : IsGraph nodes) (chance : HasChanceTables nodes) (profile : IsProfile nodes p) (fits : 2 * plan_total nodes p made.plan ≤ c.ring.most) where
-    abbrev pub start_tables : List (Table C)
-    start_tables = first_tables c nodes p made.plan
+-- ---- what a run rests on: a plan that is asked for and counted, and numbers that fit
+pub record CanRun {C : Type 0} (c : Cells C) (nodes : List NodeView) (p : List RuleView) (made : SizedPlan) : Type 0 where
+  pub ring : IsRing c.ring
+  pub size : IsSize c.ring c.ring.size
+  pub sized : AreSized c c.ring.size
+  pub asked : CanBePlanned nodes made.plan
+  pub is : IsMade nodes made.plan made
+  pub counted : made.size.cells < COUNT_END
+  pub graph : IsGraph nodes
+  pub chance : HasChanceTables nodes
+  pub profile : IsProfile nodes p
+  pub fits : 2 * plan_total nodes p made.plan ≤ c.ring.most
 
-    pub started : (before now : WorkspaceView C) (slots : List Slot) → Lists c nodes p before now slots [] (first_nodes nodes made.plan)
-        → Between c.ring nodes before now slots made.steps made.steps start_tables (so_many nodes made)
-    started before now slots l = record {
-      tables = start_tables;
-      spent = l.spent;
-      stand = subst (λ ts. Stand c.ring nodes before now l.spent slots ts) (sym (append-nil l.tables) ∙ l.leads ∙ firsts_are c nodes p made.plan asked.is_plan) l.stand;
-      leads = refl;
-      fits = fits_more c.ring c.ring.size (states_of nodes) _ c.ring.most (bound_fits nodes p made.plan c.ring.most graph chance profile fits) made.steps start_tables
-          (plans_fit c h c.ring.size sized are nodes p made.plan made.steps graph chance profile asked.is_plan is.order);
-      holds = plans_hold c h nodes p made.plan made.steps asked.is_plan is.order;
-      room = ap (λ ss. l.spent + made_cells nodes made.steps ss) (scopes_are c nodes p made.plan asked.is_plan) ∙ ap (λ n. n + made_cells nodes made.steps (first_scopes nodes made.plan)) spent_is;
+module _ {C : Type 0} {c : Cells C} {nodes : List NodeView} {p : List RuleView} {made : SizedPlan} (run : CanRun c nodes p made) where
+  all_cells : so_many nodes made + counted_cells nodes (has made.plan.keep) ≡ made.size.cells
+  all_cells = whole c nodes p made run.asked run.is run.counted
+
+  last_exact : counted_cells nodes (has made.plan.keep) ≡ cells_over nodes (has made.plan.keep)
+  last_exact = cells_exact nodes (has made.plan.keep) (let counted = run.counted in omega (arith, all_cells, counted))
+
+  abbrev start_tables : List (Table C)
+  start_tables = first_tables c nodes p made.plan
+
+  -- ---- the start
+  pub started : {before now : WorkspaceView C} {slots : List Slot} → Lists c nodes p before now slots [] (first_nodes nodes made.plan)
+      → Between c.ring nodes before now slots made.steps made.steps (first_tables c nodes p made.plan) (so_many nodes made)
+  started {before} {now} {slots} l = record {
+    tables = start_tables;
+    spent = l.spent;
+    stand = subst (λ ts. Stand c.ring nodes before now l.spent slots ts) (sym (append-nil l.tables) ∙ l.leads ∙ firsts_are c nodes p made.plan run.asked.is_plan) l.stand;
+    leads = refl;
+    fits = fits_more c.ring c.ring.size (states_of nodes) _ c.ring.most (bound_fits nodes p made.plan c.ring.most run.graph run.chance run.profile run.fits) made.steps start_tables
+        (plans_fit c run.ring c.ring.size run.size run.sized nodes p made.plan made.steps run.graph run.chance run.profile run.asked.is_plan run.is.order);
+    holds = plans_hold c run.ring nodes p made.plan made.steps run.asked.is_plan run.is.order;
+    room = ap (λ ss. l.spent + made_cells nodes made.steps ss) (scopes_are c nodes p made.plan run.asked.is_plan) ∙ ap (λ n. n + made_cells nodes made.steps (first_scopes nodes made.plan)) spent_is;
+  }
+    where
+      spent_is : l.spent ≡ firsts nodes made
+      spent_is = (let none : l.spent ≡ l.spent + 0 = omega arith in none) ∙ l.room ∙ firsts_exact c nodes p made run.asked run.is run.counted
+
+  -- the next step by its place, and none behind the last place
+  module _ {before now : WorkspaceView C} {slots : List Slot} (i : ℕ) (b : Between c.ring nodes before now slots (drop i made.steps) made.steps (first_tables c nodes p made.plan) (so_many nodes made)) where
+    pub next_step : i < length made.steps → Between c.ring nodes before now slots (slice_index made.steps i ∷ drop (i + 1) made.steps) made.steps (first_tables c nodes p made.plan) (so_many nodes made)
+    next_step = at_place c.ring nodes before now slots i made.steps start_tables (so_many nodes made) b
+
+    pub no_step : length made.steps ≤ i → Between c.ring nodes before now slots [] made.steps (first_tables c nodes p made.plan) (so_many nodes made)
+    no_step l = subst (λ rest. Between c.ring nodes before now slots rest made.steps start_tables (so_many nodes made)) (drop_all i made.steps l) b
+
+  -- ---- one step
+  module _ {before now : WorkspaceView C} {slots : List Slot} {v : ℕ} {rest : List ℕ} (room : made.size.cells ≤ before.spare)
+      (b : Between c.ring nodes before now slots (v ∷ rest) made.steps (first_tables c nodes p made.plan) (so_many nodes made)) where
+    steps_counted : so_many nodes made < COUNT_END
+    steps_counted = (let counted = run.counted in omega (arith, all_cells, counted))
+
+    steps_room : so_many nodes made ≤ before.spare
+    steps_room = omega (arith, all_cells, room)
+
+    pub run_joins : CanJoinOut c.ring nodes now slots v
+    run_joins = can_join c.ring run.ring nodes before now slots v rest made.steps start_tables (so_many nodes made) b steps_counted steps_room
+
+    pub run_on : {after : WorkspaceView C} {new : List Slot} → GiveWay c.ring nodes now after slots new v → Between c.ring nodes before after new rest made.steps (first_tables c nodes p made.plan) (so_many nodes made)
+    run_on {after} {new} = goes_on c.ring run.ring nodes before now slots v rest made.steps start_tables (so_many nodes made) b steps_counted steps_room after new
+
+  -- ---- the end
+  module _ {before now : WorkspaceView C} {slots : List Slot} (b : Between c.ring nodes before now slots [] made.steps (first_tables c nodes p made.plan) (so_many nodes made)) where
+    pub last_fits : ProductsFit c.ring.size (states_of nodes) c.ring.most (tables_of c.ring nodes now.cells slots)
+    last_fits = fits_same c.ring run.ring c.ring.size (states_of nodes) c.ring.most [] (tables_of c.ring nodes now.cells slots) b.tables b.stand.same b.fits
+
+    kept_scope : (v : ℕ) → joined (tables_of c.ring nodes now.cells slots) v ≡ has made.plan.keep v
+    kept_scope v =
+        same_joined (states_of nodes) (tables_of c.ring nodes now.cells slots) b.tables v b.stand.same
+        ∙ ap (λ ts. joined ts v) b.leads
+        ∙ plans_keep c run.ring nodes p made.plan made.steps run.graph run.asked.is_plan run.is.order run.asked.leads v
+
+    last_cells : cells_over nodes (joined (tables_of c.ring nodes now.cells slots)) ≡ counted_cells nodes (has made.plan.keep)
+    last_cells = ap (cells_over nodes) (fun_ext kept_scope) ∙ sym last_exact
+
+    pub last_room : made.size.cells ≤ before.spare → cells_over nodes (product_table c.ring (tables_of c.ring nodes now.cells slots)).holds ≤ now.spare
+    last_room l = omega (arith, last_cells, all_cells, l, b.room, b.stand.appends.less)
+
+    abbrev last : Table C
+    last = product_table c.ring (tables_of c.ring nodes now.cells slots)
+
+    pub ended : {after : WorkspaceView C} {slot : Slot} → AppendsProduct c.ring nodes slots now after slot → SumsPlan c nodes p made before after slot
+    ended {after} {slot} a = record {
+      appends = subst (λ n. Appends before after (length before.cells) n) spent_all stands.appends;
+      live = a.live;
+      scope = λ v. ((λ m. (has_contains made.plan.keep v).0 (sym (kept_scope v) ∙ sym (a.table.holds v) ∙ m)), (λ m. a.table.holds v ∙ kept_scope v ∙ (has_contains made.plan.keep v).1 m));
+      cell = λ w i.
+          a.table.cell w i
+          ∙ same_product c.ring run.ring (states_of nodes) (tables_of c.ring nodes now.cells slots) b.tables w b.stand.same i
+          ∙ ap (λ ts. product_of c.ring ts w) b.leads
+          ∙ runs_plans c run.ring nodes p made.plan made.steps w run.is.order i;
+      stays = stands.stays;
     }
       where
-        spent_is : l.spent ≡ firsts nodes made
-        spent_is = (let none : l.spent ≡ l.spent + 0 = omega arith in none) ∙ l.room ∙ firsts_exact
+        stands : Stand c.ring nodes before after (b.spent + cells_over nodes last.holds) (slots ++ slot ∷ []) (b.tables ++ last ∷ [])
+        stands = more_stands c.ring nodes before now after b.spent slots slots (slots ++ slot ∷ []) b.tables b.tables last last b.stand b.stand.live b.stand.same (record { slot = slot; appends = a; slots = refl })
+            (record { holds = λ v. refl; cell = λ w i. refl })
 
-    -- ---- the end
-    module _ (before now : WorkspaceView C) (slots : List Slot) (b : Between c.ring nodes before now slots [] made.steps start_tables (so_many nodes made)) where
-      pub last_fits : ProductsFit c.ring.size (states_of nodes) c.ring.most (tables_of c.ring nodes now.cells slots)
-      last_fits = fits_same c.ring h c.ring.size (states_of nodes) c.ring.most [] (tables_of c.ring nodes now.cells slots) b.tables b.stand.same b.fits
-
-      kept_scope : (v : ℕ) → joined (tables_of c.ring nodes now.cells slots) v ≡ has made.plan.keep v
-      kept_scope v =
-          same_joined (states_of nodes) (tables_of c.ring nodes now.cells slots) b.tables v b.stand.same
-          ∙ ap (λ ts. joined ts v) b.leads
-          ∙ plans_keep c h nodes p made.plan made.steps graph asked.is_plan is.order asked.leads v
-
-      last_cells : cells_over nodes (joined (tables_of c.ring nodes now.cells slots)) ≡ counted_cells nodes (has made.plan.keep)
-      last_cells = ap (cells_over nodes) (fun_ext kept_scope) ∙ sym last_exact
-
-      pub last_room : made.size.cells ≤ before.spare → cells_over nodes (product_table c.ring (tables_of c.ring nodes now.cells slots)).holds ≤ now.spare
-      last_room l = omega (arith, last_cells, whole, l, b.room, b.stand.appends.less)
-
-      abbrev last : Table C
-      last = product_table c.ring (tables_of c.ring nodes now.cells slots)
-
-      pub ended : (after : WorkspaceView C) (slot : Slot) → AppendsTable c.ring nodes now after slot (product_table c.ring (tables_of c.ring nodes now.cells slots)) → SumsPlan c nodes p made before after slot
-      ended after slot a = record {
-        appends = subst (λ n. Appends before after (length before.cells) n) spent_all stands.appends;
-        live = a.live;
-        scope = λ v. ((λ m. (has_contains made.plan.keep v).0 (sym (kept_scope v) ∙ sym (a.table.holds v) ∙ m)), (λ m. a.table.holds v ∙ kept_scope v ∙ (has_contains made.plan.keep v).1 m));
-        cell = λ w i.
-            a.table.cell w i
-            ∙ same_product c.ring h (states_of nodes) (tables_of c.ring nodes now.cells slots) b.tables w b.stand.same i
-            ∙ ap (λ ts. product_of c.ring ts w) b.leads
-            ∙ runs_plans c h nodes p made.plan made.steps w is.order i;
-        stays = stands.stays;
-      }
-        where
-          stands : Stand c.ring nodes before after (b.spent + cells_over nodes last.holds) (slots ++ slot ∷ []) (b.tables ++ last ∷ [])
-          stands = more_stands c.ring nodes before now after b.spent slots slots (slots ++ slot ∷ []) b.tables b.tables last last b.stand b.stand.live b.stand.same (record { slot = slot; appends = a; slots = refl })
-              (record { holds = λ v. refl; cell = λ w i. refl })
-
-          spent_all : b.spent + cells_over nodes last.holds ≡ made.size.cells
-          spent_all = omega (arith, last_cells, whole, b.room)
+        spent_all : b.spent + cells_over nodes last.holds ≡ made.size.cells
+        spent_all = omega (arith, last_cells, all_cells, b.room)

@@ -1,24 +1,22 @@
 -- Limits on cells and work, as private contracts see them. Only these cite this file.
-use Rattle.std.specs.Prelude.{◌≡◌, ℕ, ◌+◌, ◌-◌, ◌*◌, ◌≤◌, Bool, List, map, length, Option, SomeIff, ◌<◌, [], take, sum_by, MatchOption}
+use Rattle.std.specs.Prelude.{◌≡◌, ◌⊎◌, ℕ, ◌+◌, ◌-◌, ◌*◌, ◌<◌, ◌≤◌, Bool, List, [], map, take, length, sum_by, Option, MatchOption, SomeIff}
+use Rattle.std.specs.List.{list_any}
 use Rattle.node_sets.specs.declared.sets.NodeSet.{NodeSet}
 use Rattle.node_sets.specs.Sets.{holds}
 use Rattle.maid_model.specs.Views.{NodeView, RuleView}
 use Rattle.cell_rings.specs.declared.cells.Cell.{Ghosts}
-use Rattle.cell_rings.specs.Rings.{Ring}
-use Rattle.ring_sums.specs.Tables.{Table, joined_without, scopes_of}
+use Rattle.ring_sums.specs.Tables.{joined_without}
 use Rattle.plan_sums.specs.Plans.{Cells, mass_cells}
 use Rattle.factor_core.specs.declared.slots.Slot.{Slot}
-use Rattle.factor_core.specs.Operations.{first_table}
+use Rattle.factor_core.specs.Operations.{cells_of, first_table}
 use Rattle.factor_core.specs.Slots.{WorkspaceView}
 use Rattle.size_precheck.specs.Counts.{counted_cells}
 use Rattle.size_precheck.specs.Greedy.{holding, joined_set}
-use Rattle.size_precheck.specs.Sizes.{steps_work}
 use Rattle.eliminate.specs.declared.counts.Limits.{Limits}
 use Rattle.eliminate.specs.declared.firsts.Play.{Play}
 use Rattle.eliminate.specs.declared.places.Places.{Places}
-use Rattle.factor_core.specs.Operations.{cells_of}
 use Rattle.eliminate.specs.Places.{slots_at}
-use Rattle.eliminate.specs.Steps.{Lists, Between, first_cells}
+use Rattle.eliminate.specs.Steps.{Lists, first_cells}
 
 -- so many cells and so much work are taken from what is left, where there is as much
 abbrev pub Spends : Limits → ℕ → ℕ → Option Limits → Type 0
@@ -50,6 +48,24 @@ abbrev pub SpendsStep : List NodeView → ℕ → List (ℕ → Bool) → Limits
 SpendsStep nodes v scopes left result =
     Spends left (step_cells nodes v scopes) (step_work nodes v scopes) result
 
+-- the cells of the product of tables over those scopes
+abbrev pub product_cells : List NodeView → List (ℕ → Bool) → ℕ
+product_cells nodes scopes = counted_cells nodes (λ v. list_any (λ s. s v) scopes)
+
+-- the work of the product: these cells times the number of tables
+abbrev pub product_work : List NodeView → List (ℕ → Bool) → ℕ
+product_work nodes scopes = product_cells nodes scopes * length scopes
+
+-- the cells and the work of the product over those scopes are taken from what is left, where there is as much
+abbrev pub SpendsProduct : List NodeView → List (ℕ → Bool) → Limits → Option Limits → Type 0
+SpendsProduct nodes scopes left result =
+    Spends left (product_cells nodes scopes) (product_work nodes scopes) result
+
+-- one of the two is more than what is left
+abbrev pub IsProductTooMuch : List NodeView → List (ℕ → Bool) → Limits → Type 0
+IsProductTooMuch nodes scopes left =
+    (left.cells < product_cells nodes scopes) ⊎ (left.work < product_work nodes scopes)
+
 -- among the first tables: what was appended was taken from the limits
 pub record ListsWithin {C : Type 0}
     (c : Cells C) (nodes : List NodeView) (p : List RuleView) (before now : WorkspaceView C)
@@ -66,13 +82,3 @@ ListsOrNone kind p before now slots vs limits result = MatchOption result
     (limits.cells < sum_by (first_cells (cells_of kind) p.diagram.now.nodes p.profile.now) vs)
     (ListsWithin (cells_of kind) p.diagram.now.nodes p.profile.now before now
     (take (length vs) slots) [] vs limits)
-
--- between steps: so was the work of those so far
-pub record BetweenWithin {C : Type 0}
-    (r : Ring C) (nodes : List NodeView) (before now : WorkspaceView C) (slots : List Slot)
-    (rest steps : List ℕ) (first : List (Table C)) (all : ℕ) (limits left : Limits) : Type 0
-  where
-    pub between : Between r nodes before now slots rest steps first all
-    pub cells : left.cells + between.spent ≡ limits.cells
-    pub work : left.work + steps_work nodes steps (scopes_of first)
-        ≡ limits.work + steps_work nodes rest (scopes_of between.tables)

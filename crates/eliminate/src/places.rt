@@ -34,6 +34,18 @@ pub fn gather(slots: &[Slot], places: &NodeSet, found: &mut [Slot]) -> usize
     n
 }
 
+/// Lists the live slots, in the order of their places. Gives how many there are.
+pub fn gather_live(slots: &[Slot], places: &Places, found: &mut [Slot]) -> usize
+    requires within { (k : ℕ) → IsIn places.now.live k → k < places.now.made }
+    requires made { places.now.made ≤ length slots.now }
+    requires few { length slots.now ≤ MOST_NODES }
+    requires room { length found.old ≡ length slots.now }
+    ensures list { take result found.new ≡ slots_at places.now slots.now }
+    ensures few { result ≤ length slots.now }
+{
+    gather(before(slots, places.made), &places.live, found)
+}
+
 /// Adds the place to those of each node of the scope, among the nodes that places are kept for.
 fn note_place(at: &mut [NodeSet], scope: &NodeSet, place: usize)
     requires { place < MOST_NODES }
@@ -114,7 +126,7 @@ fn pack(slots: &mut [Slot], at: &mut [NodeSet], places: Places, spare: &mut [Slo
     ensures made { result.made ≡ length (slots_at places slots.old) }
     ensures live { slots_at result slots.new ≡ slots_at places slots.old }
 {
-    let count = gather(before(slots, places.made), &places.live, spare);
+    let count = gather_live(slots, &places, spare);
     for i in 0..count {
         slots[i] = spare[i];
     }

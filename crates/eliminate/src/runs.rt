@@ -13,7 +13,7 @@ ghost use Rattle.eliminate.specs.Steps.{first_nodes, CanJoinLive, Joins};
 
 use crate::firsts::{Play, first_tables};
 use crate::lists::{before, blank_slot};
-use crate::places::{Places, all_live, gather, no_places, places_of, put_slot};
+use crate::places::{Places, all_live, gather, gather_live, no_places, places_of, put_slot};
 use cell_rings::Cell;
 use factor_core::{Slot, StateCounts, Workspace};
 use maid_model::{Diagram, Profile};
@@ -99,7 +99,7 @@ fn run_with<C: Cell>(
     for node in plan.steps() {
         places = eliminate(work, &play, slots, at, joined, places, *node);
     }
-    let count = gather(before(slots, places.made), &places.live, joined);
+    let count = gather_live(slots, &places, joined);
     work.product(diagram, &counts, before(joined, count))
 }
 

@@ -1,20 +1,23 @@
 //! Sums of tables of any nodes, within limits that the caller sets.
 
-ghost use Rattle.std.specs.Prelude.{◌≡◌, ◌<◌, ◌≤◌, All, length};
+ghost use Rattle.std.specs.Prelude.{◌≡◌, ◌↔◌, ℕ, ◌<◌, ◌≤◌, All, length, None, IfSome};
 ghost use Rattle.maid_model.specs.declared.limits.TheConstants.{MOST_PLAN_CELLS};
+ghost use Rattle.maid_model.specs.Diagrams.{IsDiagram};
 ghost use Rattle.maid_model.specs.Nodes.{counts_of};
 ghost use Rattle.maid_model.specs.Profiles.{IsProfile};
 ghost use Rattle.node_sets.specs.declared.sets.TheConstants.{MOST_NODES};
+ghost use Rattle.node_sets.specs.Sets.{IsIn};
 ghost use Rattle.factor_core.specs.Operations.{NumbersFit};
-ghost use Rattle.eliminate.specs.Limits.{live_scopes, IsFirstScope, ListsOrNone, SpendsStep};
-ghost use Rattle.eliminate.specs.Places.{IsBlank, IsBoard};
+ghost use Rattle.factor_core.specs.Slots.{IsLiveSlot, ProductOfFits, AppendsProduct};
+ghost use Rattle.eliminate.specs.Limits.{scopes_at, live_scopes, IsFirstScope, ListsOrNone, SpendsStep, SpendsProduct, IsProductTooMuch};
+ghost use Rattle.eliminate.specs.Places.{slots_at, IsBlank, IsBoard};
 ghost use Rattle.eliminate.specs.Steps.{NumbersFitIn};
 ghost use Rattle.eliminate.specs.Results.{Grows, FindTablesIn, NoneIffTooMuch, SumsFitIn, SumsIfSome};
 
 use crate::counts::{Limits, count_cells, spend, united_scope};
 use crate::firsts::{Play, put_table};
 use crate::lists::{before, blank_slot};
-use crate::places::{Places, all_live, gather, no_places, places_of};
+use crate::places::{Places, all_live, gather, gather_live, no_places, places_of};
 use crate::runs::{FEW, SHORT, eliminate};
 use cell_rings::Cell;
 use factor_core::{Slot, StateCounts, Workspace};
@@ -97,6 +100,50 @@ fn spend_on_step(
     )
 }
 
+/// What is left of the limits after the product of the slots.
+fn spend_on_product(
+    diagram: &Diagram,
+    counts: &StateCounts,
+    slots: &[Slot],
+    left: Limits,
+) -> Option<Limits>
+    requires { counts.now ≡ counts_of diagram.now.nodes }
+    ensures { SpendsProduct diagram.now.nodes (scopes_at slots.now) left result }
+{
+    let cells = count_cells(diagram, counts, &united_scope(slots));
+    spend(left, cells, cells, slots.len())
+}
+
+/// The product of the live slots, unless it asks for more than what is left of the limits.
+fn multiply_live<C: Cell>(
+    work: &mut Workspace<C>,
+    diagram: &Diagram,
+    counts: &StateCounts,
+    slots: &[Slot],
+    joined: &mut [Slot],
+    places: &Places,
+    left: Limits,
+) -> Option<Slot>
+    requires diagram { IsDiagram diagram.now }
+    requires counts { counts.now ≡ counts_of diagram.now.nodes }
+    requires within { (k : ℕ) → IsIn places.now.live k → k < places.now.made }
+    requires made { places.now.made ≤ length slots.now }
+    requires slots { length slots.now ≤ MOST_NODES }
+    requires joined { length joined.old ≡ length slots.now }
+    requires live { All (IsLiveSlot diagram.now.nodes work.old.cells) (slots_at places.now slots.now) }
+    requires fits { ProductOfFits C.ring diagram.now.nodes (slots_at places.now slots.now) work.old }
+    requires small { left.cells ≤ MOST_PLAN_CELLS }
+    requires room { left.cells ≤ work.old.spare }
+    ensures some { IfSome result (AppendsProduct C.ring diagram.now.nodes (slots_at places.now slots.now) work.old work.new) }
+    ensures none { (result ≡ None) ↔ IsProductTooMuch diagram.now.nodes (live_scopes places.now slots.now) left }
+    ensures grows { Grows C.ring diagram.now.nodes work.old work.new }
+{
+    let count = gather_live(slots, places, joined);
+    let last = before(joined, count);
+    spend_on_product(diagram, counts, last, left)?;
+    Some(work.product(diagram, counts, last))
+}
+
 /// The sum with these lists to write its places and slots into.
 fn sum_with<C: Cell>(
     work: &mut Workspace<C>,
@@ -138,11 +185,7 @@ fn sum_with<C: Cell>(
         left = spend_on_step(diagram, &counts, slots, at, joined, &places, *node, left)?;
         places = eliminate(work, &play, slots, at, joined, places, *node);
     }
-    let count = gather(before(slots, places.made), &places.live, joined);
-    let last = before(joined, count);
-    let cells = count_cells(diagram, &counts, &united_scope(last));
-    spend(left, cells, cells, count)?;
-    Some(work.product(diagram, &counts, last))
+    multiply_live(work, diagram, &counts, slots, joined, &places, left)
 }
 
 /// The sum over up to `NODES` nodes, of up to `SLOTS` first tables.
