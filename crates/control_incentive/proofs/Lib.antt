@@ -1,2 +1,3 @@
 pub mod Deciding
 pub mod Told
+pub mod Walked

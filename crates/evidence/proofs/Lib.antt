@@ -1,5 +1,6 @@
 mod Below
 mod Conditional
+mod HandedOn
 mod Left
 mod Listed
 mod Measured

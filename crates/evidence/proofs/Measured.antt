@@ -64,7 +64,7 @@ size_push nodes plans plan before after all adds = record {
     stop_part : (end a b : ℕ) → min (min a end + b) end ≡ min (a + b) end
     stop_part end a b = omega arith
 
-size_few : (nodes : List NodeView) (plans : List PlanView) (size : Size) → IsSizeOfAll nodes plans size → size.work ≤ COUNT_END
+pub size_few : (nodes : List NodeView) (plans : List PlanView) (size : Size) → IsSizeOfAll nodes plans size → size.work ≤ COUNT_END
 size_few nodes plans size all = few COUNT_END _ _ all.work
   where
     few : (end a s : ℕ) → a ≡ min s end → a ≤ end

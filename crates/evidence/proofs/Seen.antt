@@ -59,7 +59,7 @@ module _ (nodes : List NodeView) (x : ℕ) where
   owners_same : (v : ℕ) → owners_of others v ≡ owners_of nodes v
   owners_same = kept (λ n. n.owner ∷ n.more) (λ n. refl)
 
-  states_at : (v : ℕ) → states_of others v ≡ states_of nodes v
+  pub states_at : (v : ℕ) → states_of others v ≡ states_of nodes v
   states_at = kept (λ n. n.states) (λ n. refl)
 
   cells_same : (v : ℕ) → (node_at others v).cells ≡ (node_at nodes v).cells

@@ -3,6 +3,8 @@ pub mod Checks
 pub mod Conditions
 pub mod Digits
 pub mod Generated
+pub mod GivenRows
+pub mod HandedOn
 pub mod Judging
 pub mod Known
 pub mod Leading

@@ -2,6 +2,7 @@
 use Rattle.std.proofs.Common.{◌≡◌, ◌∙◌, ℕ, zero, suc, ◌+◌, ◌*◌, ◌/◌, ◌%◌, ◌^◌, ◌<◌, ◌≤◌, refl, sym, ap, subst, arith, ℤ, pos, ◌+ℤ◌, ◌*ℤ◌, ◌-ℤ◌, ◌<ℤ◌, nat_abs, to_z, of_z, FitsSigned, rules}
 use Rattle.std.proofs.lemmas.Int.{ints, fits_signed_from_abs, unsigned_abs-mul}
 use Rattle.std.specs.Int.{w128}
+use Rattle.std.below.core.specs.declared.int.i128.TheConstants.{MIN}
 use Rattle.std.proofs.lemmas.Nat.Gcd.{IsGcd-from_zero, same_from_IsGcd, le_of_dvd}
 use Rattle.std.proofs.Math.Nat.{div-mul_cancel, dvd-add_iff_right, dvd-mod_iff, dvd-mul_left, dvd-mul_right_of_dvd, mul_comm, mul-le-mul_left}
 use Rattle.std.specs.Int.{IsGcd, ◌∣◌}
@@ -155,15 +156,23 @@ widened_is r whole f w =
 fits_minus : (x y : ℤ) → nat_abs x ≤ greatest_number → nat_abs y ≤ greatest_number → FitsSigned w128 (x -ℤ y)
 fits_minus x y h k = search rules
 
+-- what the code subtracts is the difference, which fits
+pub minus_fits : (x y : ℤ) → nat_abs x ≤ greatest_number → nat_abs y ≤ greatest_number → FitsSigned w128 (to_z w128 (of_z w128 x) -ℤ to_z w128 (of_z w128 y))
+minus_fits x y h k = subst (FitsSigned w128) (λ i. sym (round x (fits_small x (omega (arith, h)))) i -ℤ sym (round y (fits_small y (omega (arith, k)))) i) (fits_minus x y h k)
+
+minus_exact : (x y : ℤ) → nat_abs x ≤ greatest_number → nat_abs y ≤ greatest_number → to_z w128 (of_z w128 (to_z w128 (of_z w128 x) -ℤ to_z w128 (of_z w128 y))) ≡ x -ℤ y
+minus_exact x y h k =
+    (λ i. to_z w128 (of_z w128 (round x (fits_small x (omega (arith, h))) i -ℤ round y (fits_small y (omega (arith, k))) i)))
+    ∙ round (x -ℤ y) (fits_minus x y h k)
+
+-- and is not the least number
+pub minus_above : (x y : ℤ) → nat_abs x ≤ greatest_number → nat_abs y ≤ greatest_number → to_z w128 (of_z w128 (to_z w128 (of_z w128 x) -ℤ to_z w128 (of_z w128 y))) ≡ MIN → ⊥
+minus_above x y h k e = let least : x -ℤ y ≡ MIN = sym (minus_exact x y h k) ∙ e in omega (arith, ints, h, k, least)
+
 -- the fraction that `reduce` makes of the difference of two such numerators
 pub reduced_is : (a b : Ratio) (x y n : ℤ) (k m : ℕ) → 0 < m → nat_abs x ≤ greatest_number → nat_abs y ≤ greatest_number → x *ℤ pos a.den ≡ a.num *ℤ pos m → y *ℤ pos b.den ≡ b.num *ℤ pos m
     → FitsSigned w128 n → IsReduced (record { num = n; den = k }) → to_z w128 (of_z w128 (to_z w128 (of_z w128 x) -ℤ to_z w128 (of_z w128 y))) *ℤ pos k ≡ n *ℤ pos m
     → IsDifference (record { num = to_z w128 (of_z w128 n); den = k }) a b
 reduced_is a b x y n k m h lx ly ex ey f red same =
     subst (λ z. IsDifference (record { num = z; den = k }) a b) (sym (round n f))
-    (difference_is (record { num = n; den = k }) a b x y m h ex ey (record { reduced = red; same = sym same ∙ ap (λ z. z *ℤ pos k) exact }))
-  where
-    exact : to_z w128 (of_z w128 (to_z w128 (of_z w128 x) -ℤ to_z w128 (of_z w128 y))) ≡ x -ℤ y
-    exact =
-        (λ i. to_z w128 (of_z w128 (round x (fits_small x (omega (arith, lx))) i -ℤ round y (fits_small y (omega (arith, ly))) i)))
-        ∙ round (x -ℤ y) (fits_minus x y lx ly)
+    (difference_is (record { num = n; den = k }) a b x y m h ex ey (record { reduced = red; same = sym same ∙ ap (λ z. z *ℤ pos k) (minus_exact x y lx ly) }))

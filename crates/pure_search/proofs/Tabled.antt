@@ -14,6 +14,10 @@ pub record TableSoFar (nodes : List NodeView) (agent : ℕ) (keys : List ℕ) (g
 pub none_yet : (nodes : List NodeView) (agent : ℕ) (choices : List ℕ) → IsWorld (counts_for nodes) choices → worlds_from (counts_for nodes) choices ≡ choice_lists nodes → TableSoFar nodes agent [] [] choices
 none_yet nodes agent choices w e = record { world = w; keys_are = ap (map (key_of nodes agent)) e; gains_are = ap (map (part_gain nodes agent)) e; within = λ i d l. absurd (omega arith) }
 
+-- fewer lists are left from the next one on
+pub fewer_left : (cs choices next now : List ℕ) → worlds_from cs choices ≡ choices ∷ worlds_from cs next → now ≡ next → length (worlds_from cs now) < length (worlds_from cs choices)
+fewer_left cs choices next now e same = let more = ap length e in let left = ap (λ xs. length (worlds_from cs xs)) same in omega (arith, more, left)
+
 longer : {X : Type 0} (f : List ℕ → X) (out out' : List X) (x : X) (xs rest : List (List ℕ)) (c : List ℕ) → out' ≡ out ++ x ∷ [] → x ≡ f c → xs ≡ c ∷ rest → out' ++ map f rest ≡ out ++ map f xs
 longer f out out' x xs rest c a b e =
     ap (λ l. l ++ map f rest) a ∙ append_assoc out (x ∷ []) (map f rest) ∙ (λ i. out ++ b i ∷ map f rest) ∙ ap (λ l. out ++ map f l) (sym e)

@@ -12,3 +12,4 @@ pub mod Ready
 pub mod Assembling
 pub mod Unmoved
 pub mod Standing
+pub mod Refused

@@ -1,9 +1,10 @@
-use Rattle.std.proofs.Common.{rules, ◌≡◌, ◌<◌, inl, sym, subst}
+use Rattle.std.proofs.Common.{rules, ◌≡◌, ◌∙◌, ◌<◌, refl, inl, inr, sym, ap, subst}
 use Rattle.std.specs.Prelude.{Ok, Err, IfOk, IfSome, IsTrue}
 use Rattle.std.proofs.lemmas.Option.{IfSome_then}
 use Rattle.first_fault.specs.Passes.{◌▸◌, rule}
 use Rattle.maid_model.specs.declared.limits.TheConstants.{MOST_RULE_CELLS}
 use Rattle.maid_model.specs.Edits.{as_decision}
+use Rattle.maid_model.specs.Subgames.{OwnsAll}
 use Rattle.maid_model.specs.Values.{IsDifferenceOfOptima}
 use Rattle.maid_model.specs.Views.{DiagramView}
 use Rattle.diagram_graph.specs.Room.{rule_cells}
@@ -11,7 +12,7 @@ use Rattle.optimum_gap.specs.Baselines.{HaveNearScopes}
 use Rattle.optimum_gap.specs.Found.{IsGain, TooLarge, Worthless, reason_pass, unless}
 use Rattle.control_incentive.specs.Lines.{controlling}
 use Rattle.rule_solver.specs.Kept.{IsKeptDiagram}
-use Rattle.control_incentive.proofs.Deciding.{behind, plans_kept, searches_kept}
+use Rattle.control_incentive.proofs.Deciding.{behind, owns_made, plans_kept, searches_kept}
 use Rattle.control_incentive.proofs.finding.find.Goals as goal
 
 no_error : {A E : Type 0} {x : A} {e : E} → Ok x ≡ Err e → ⊥
@@ -47,3 +48,16 @@ returns-in-Ok-clause-found c =
     behind (unless (IsTrue c.args.matters) Worthless) (rule large TooLarge ▸ reason_pass made) (IsDifferenceOfOptima made.nodes d.nodes d.decimals agent) c.gain_with.result holds
     (behind (rule large TooLarge) (reason_pass made) (IsDifferenceOfOptima made.nodes d.nodes d.decimals agent) c.gain_with.result room
     (subst (λ e. IfOk c.gain_with.result (IsGain d e agent)) c.in-Ok.ensures.made c.gain_with.ensures.gain))
+
+pub gain_with-requires-clause-alone : goal.gain_with-requires-clause-alone
+gain_with-requires-clause-alone c =
+    let agent = c.args.baseline.now.agent in
+    subst (λ (e : DiagramView). OwnsAll e.nodes agent) (sym c.in-Ok.ensures.made) (owns_made c.args.baseline.now.diagram.now.nodes agent c.args.node c.requires.chance c.requires.baseline.is_optimum.alone)
+
+pub gain_with-requires-clause-within : goal.gain_with-requires-clause-within
+gain_with-requires-clause-within c = subst (λ (e : DiagramView). c.args.baseline.now.agent < e.agents) (sym c.in-Ok.ensures.made) c.requires.baseline.within
+
+pub returns-in-Err-TooLarge-clause-found : goal.returns-in-Err-TooLarge-clause-found
+returns-in-Err-TooLarge-clause-found c =
+    let holds : IsTrue c.args.matters = search rules in
+    inl (inr (holds, inl (c.make_decision.ensures.too_large.0 (c.in-Err-TooLarge.is ∙ ap (λ e. Err e) c.in-Err-TooLarge.field-0-is), refl)))

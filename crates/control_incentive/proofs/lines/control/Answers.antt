@@ -1,4 +1,5 @@
 use Rattle.std.proofs.Common.{◌≡◌, ◌∙◌, ◌<◌, All, ap, length, map, slice_index_or, sym, subst}
+use Rattle.std.proofs.lemmas.Result.{IfOk-from_err}
 use Rattle.std.specs.Prelude.{IfOk, IfSome, None, Option, Some}
 use Rattle.std.specs.Borrow.{Bor}
 use Rattle.std.specs.Option.{option_copied}
@@ -84,3 +85,42 @@ returns-clause-worths c =
     worths_there d solved.answers agent is.graph is.tables fits trimmed cut c.find-paths.result has c.control_lines.result
     (subst (λ nodes. IfOk c.control_lines.result (λ v. map line_node v.items ≡ nodes)) (c.deref.ensures.value ∙ c.in_ok-nodes.ensures) c.control_lines.ensures.nodes)
     (subst (λ e. IfOk c.control_lines.result (λ lines. All (IsControlLineAlone e agent c.find-paths.result) lines.items)) c.in_ok-alone.ensures c.control_lines.ensures.lines)
+
+pub returns-in_err-alone-clause-nodes : goal.returns-in_err-alone-clause-nodes
+returns-in_err-alone-clause-nodes c = IfOk-from_err _ _ c.from_residual.ensures.0
+
+pub returns-in_err-alone-clause-lines : goal.returns-in_err-alone-clause-lines
+returns-in_err-alone-clause-lines c = IfOk-from_err _ _ c.from_residual.ensures.0
+
+pub returns-in_err-alone-clause-worths : goal.returns-in_err-alone-clause-worths
+returns-in_err-alone-clause-worths c = IfOk-from_err _ _ c.from_residual.ensures.0
+
+pub returns-in_err-trimmed-clause-nodes : goal.returns-in_err-trimmed-clause-nodes
+returns-in_err-trimmed-clause-nodes c = IfOk-from_err _ _ c.from_residual-in_err-trimmed.ensures.0
+
+pub returns-in_err-trimmed-clause-lines : goal.returns-in_err-trimmed-clause-lines
+returns-in_err-trimmed-clause-lines c = IfOk-from_err _ _ c.from_residual-in_err-trimmed.ensures.0
+
+pub returns-in_err-trimmed-clause-worths : goal.returns-in_err-trimmed-clause-worths
+returns-in_err-trimmed-clause-worths c = IfOk-from_err _ _ c.from_residual-in_err-trimmed.ensures.0
+
+pub returns-in_err-nodes-clause-nodes : goal.returns-in_err-nodes-clause-nodes
+returns-in_err-nodes-clause-nodes c = IfOk-from_err _ _ c.from_residual-in_err-nodes.ensures.0
+
+pub returns-in_err-nodes-clause-lines : goal.returns-in_err-nodes-clause-lines
+returns-in_err-nodes-clause-lines c = IfOk-from_err _ _ c.from_residual-in_err-nodes.ensures.0
+
+pub returns-in_err-nodes-clause-worths : goal.returns-in_err-nodes-clause-worths
+returns-in_err-nodes-clause-worths c = IfOk-from_err _ _ c.from_residual-in_err-nodes.ensures.0
+
+pub returns-in_err-kept-clause-nodes : goal.returns-in_err-kept-clause-nodes
+returns-in_err-kept-clause-nodes c = IfOk-from_err _ _ c.from_residual-in_err-kept.ensures.0
+
+pub returns-in_err-kept-clause-lines : goal.returns-in_err-kept-clause-lines
+returns-in_err-kept-clause-lines c = IfOk-from_err _ _ c.from_residual-in_err-kept.ensures.0
+
+pub returns-in_err-kept-clause-worths : goal.returns-in_err-kept-clause-worths
+returns-in_err-kept-clause-worths c = IfOk-from_err _ _ c.from_residual-in_err-kept.ensures.0
+
+pub returns-clause-nodes : goal.returns-clause-nodes
+returns-clause-nodes c = subst (λ nodes. IfOk c.control_lines.result (λ v. map line_node v.items ≡ nodes)) (c.deref.ensures.value ∙ c.in_ok-nodes.ensures) c.control_lines.ensures.nodes

@@ -1,3 +1,7 @@
+use Rattle.evidence.specs.Faults.{given_size_pass}
+use Rattle.rule_solver.specs.Faults.{KeepsPlanLimits}
+use Rattle.evidence.proofs.HandedOn.{solver_out_of_memory}
+use Rattle.std.proofs.lemmas.Result.{IfOk-from_err}
 use Rattle.evidence.proofs.Measured.{room_for_all, small_given}
 use Rattle.evidence.proofs.limits.keep_sizes.Goals as goal
 
@@ -7,3 +11,54 @@ returns-clause-rows c = small_given c.args.diagram.now c.args.order.now c.args.n
 pub returns-clause-room : goal.returns-clause-room
 returns-clause-room c =
     room_for_all c.args.diagram.now.nodes c.greedy_orders.ensures.one c.args.order.now c.args.node c.in_ok-plans.plans.size c.in_ok-plans.ensures.size c.descent_is_tested.ensures c.requires.order
+
+pub plan_all-requires-clause-order : goal.plan_all-requires-clause-order
+plan_all-requires-clause-order c = c.requires.order
+
+pub plan_all-requires-clause-within : goal.plan_all-requires-clause-within
+plan_all-requires-clause-within c = c.requires.within
+
+pub plan_all-requires-clause-kind : goal.plan_all-requires-clause-kind
+plan_all-requires-clause-kind c = c.requires.kind
+
+pub returns-in_err-plans-clause-rows : goal.returns-in_err-plans-clause-rows
+returns-in_err-plans-clause-rows c = solver_out_of_memory (given_size_pass c.args.diagram.now c.args.node) _ c.from_residual.ensures
+
+pub returns-in_err-plans-clause-plans : goal.returns-in_err-plans-clause-plans
+returns-in_err-plans-clause-plans c = IfOk-from_err _ _ c.from_residual.ensures.0
+
+pub returns-in_err-plans-clause-further : goal.returns-in_err-plans-clause-further
+returns-in_err-plans-clause-further c = IfOk-from_err _ _ c.from_residual.ensures.0
+
+pub returns-in_err-plans-clause-room : goal.returns-in_err-plans-clause-room
+returns-in_err-plans-clause-room c = IfOk-from_err _ _ c.from_residual.ensures.0
+
+pub returns-in_err-plans-clause-limit : goal.returns-in_err-plans-clause-limit
+returns-in_err-plans-clause-limit c = IfOk-from_err _ _ c.from_residual.ensures.0
+
+pub returns-then-not-is_small-clause-rows : goal.returns-then-not-is_small-clause-rows
+returns-then-not-is_small-clause-rows c = (
+  record { order = c.args.order.now; is_order = c.requires.order; is_size = c.in_ok-plans.ensures.size },
+  λ keeps. let small = c.is_small.ensures.1 keeps in cc,
+)
+
+pub returns-clause-plans : goal.returns-clause-plans
+returns-clause-plans c = c.in_ok-plans.ensures.plans
+
+pub returns-clause-further : goal.returns-clause-further
+returns-clause-further c = c.in_ok-plans.ensures.further
+
+pub returns-clause-limit : goal.returns-clause-limit
+returns-clause-limit c = let small : KeepsPlanLimits c.in_ok-plans.plans.size = c.is_small.ensures.0 c.if-not-is_small.false in small.cells
+
+pub returns-then-not-is_small-clause-plans : goal.returns-then-not-is_small-clause-plans
+returns-then-not-is_small-clause-plans c = tt
+
+pub returns-then-not-is_small-clause-further : goal.returns-then-not-is_small-clause-further
+returns-then-not-is_small-clause-further c = tt
+
+pub returns-then-not-is_small-clause-room : goal.returns-then-not-is_small-clause-room
+returns-then-not-is_small-clause-room c = tt
+
+pub returns-then-not-is_small-clause-limit : goal.returns-then-not-is_small-clause-limit
+returns-then-not-is_small-clause-limit c = tt

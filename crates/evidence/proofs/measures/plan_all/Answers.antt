@@ -1,7 +1,10 @@
-use Rattle.std.proofs.Common.{◌∙◌, ◌+◌, None, arith, length, slice_index_or, sym, subst, ap}
+use Rattle.size_precheck.specs.Sizes.{run_plans}
+use borrow.Author.Count.{falls}
+use Rattle.std.proofs.lemmas.Result.{IfOk-from_err}
+use Rattle.std.proofs.Common.{◌∙◌, ◌+◌, None, arith, length, slice_index_or, sym, subst, ap, ◌<◌, ◌≡◌}
 use Rattle.evidence.specs.Plans.{IsPlanIf}
 use Rattle.evidence.proofs.Listed.{at_more, long_more}
-use Rattle.evidence.proofs.Measured.{counted_first, counted_next}
+use Rattle.evidence.proofs.Measured.{counted_first, counted_next, Counted, size_few}
 use Rattle.evidence.proofs.Orders.{lists_decisions}
 use Rattle.evidence.proofs.measures.plan_all.Goals as goal
 
@@ -27,3 +30,86 @@ loop-v-preserved c =
           subst (λ items. IsPlanIf nodes x u (slice_index_or items u None)) (sym c.in_ok-push.ensures.items)
           (at_more (IsPlanIf nodes x) before c.in_ok-plan.plan None (λ v m. c.loop-v.invariant.2 v (omega (arith, m, count))) (λ n e. subst (λ v. IsPlanIf nodes x v c.in_ok-plan.plan) (sym (e ∙ count)) c.in_ok-plan.ensures.plan) u (omega (arith, l, count)))),
     )
+
+pub returns-in_err-run-clause-plans : goal.returns-in_err-run-clause-plans
+returns-in_err-run-clause-plans c = IfOk-from_err _ _ c.from_residual.ensures.0
+
+pub returns-in_err-run-clause-further : goal.returns-in_err-run-clause-further
+returns-in_err-run-clause-further c = IfOk-from_err _ _ c.from_residual.ensures.0
+
+pub returns-in_err-run-clause-size : goal.returns-in_err-run-clause-size
+returns-in_err-run-clause-size c = IfOk-from_err _ _ c.from_residual.ensures.0
+
+pub returns-in_err-alone-clause-plans : goal.returns-in_err-alone-clause-plans
+returns-in_err-alone-clause-plans c = IfOk-from_err _ _ c.from_residual-in_err-alone.ensures.0
+
+pub returns-in_err-alone-clause-further : goal.returns-in_err-alone-clause-further
+returns-in_err-alone-clause-further c = IfOk-from_err _ _ c.from_residual-in_err-alone.ensures.0
+
+pub returns-in_err-alone-clause-size : goal.returns-in_err-alone-clause-size
+returns-in_err-alone-clause-size c = IfOk-from_err _ _ c.from_residual-in_err-alone.ensures.0
+
+pub returns-in_err-utilities-clause-plans : goal.returns-in_err-utilities-clause-plans
+returns-in_err-utilities-clause-plans c = IfOk-from_err _ _ c.from_residual-in_err-utilities.ensures.0
+
+pub returns-in_err-utilities-clause-further : goal.returns-in_err-utilities-clause-further
+returns-in_err-utilities-clause-further c = IfOk-from_err _ _ c.from_residual-in_err-utilities.ensures.0
+
+pub returns-in_err-utilities-clause-size : goal.returns-in_err-utilities-clause-size
+returns-in_err-utilities-clause-size c = IfOk-from_err _ _ c.from_residual-in_err-utilities.ensures.0
+
+pub returns-in_err-plan-clause-plans : goal.returns-in_err-plan-clause-plans
+returns-in_err-plan-clause-plans c = IfOk-from_err _ _ c.from_residual-in_err-plan.ensures.0
+
+pub returns-in_err-plan-clause-further : goal.returns-in_err-plan-clause-further
+returns-in_err-plan-clause-further c = IfOk-from_err _ _ c.from_residual-in_err-plan.ensures.0
+
+pub returns-in_err-plan-clause-size : goal.returns-in_err-plan-clause-size
+returns-in_err-plan-clause-size c = IfOk-from_err _ _ c.from_residual-in_err-plan.ensures.0
+
+pub returns-in_err-push-clause-plans : goal.returns-in_err-push-clause-plans
+returns-in_err-push-clause-plans c = IfOk-from_err _ _ c.from_residual-in_err-push.ensures.0
+
+pub returns-in_err-push-clause-further : goal.returns-in_err-push-clause-further
+returns-in_err-push-clause-further c = IfOk-from_err _ _ c.from_residual-in_err-push.ensures.0
+
+pub returns-in_err-push-clause-size : goal.returns-in_err-push-clause-size
+returns-in_err-push-clause-size c = IfOk-from_err _ _ c.from_residual-in_err-push.ensures.0
+
+pub add_utility-requires-clause-node : goal.add_utility-requires-clause-node
+add_utility-requires-clause-node c = c.requires.within
+
+pub add_utility-requires-clause-kind : goal.add_utility-requires-clause-kind
+add_utility-requires-clause-kind c = c.requires.kind
+
+pub add_utility-requires-clause-within : goal.add_utility-requires-clause-within
+add_utility-requires-clause-within c = subst (λ n. c.loop-v.v < n) c.count-v-end.ensures.count c.loop-v-test.true
+
+pub add_utility-requires-clause-few : goal.add_utility-requires-clause-few
+add_utility-requires-clause-few c = c.loop-v.invariant.0.few
+
+pub loop-v-smaller : goal.loop-v-smaller
+loop-v-smaller c = falls _ _ c.loop-v-test.true
+
+pub returns-clause-plans : goal.returns-clause-plans
+returns-clause-plans c = record { decisions = c.in_ok-run.ensures.plans; worths = c.in_ok-run.ensures.worths }
+
+pub add_plan-requires-clause-few : goal.add_plan-requires-clause-few
+add_plan-requires-clause-few c = size_few c.args.diagram.now.nodes (run_plans c.args.diagram.now.nodes c.args.order.now) c.in_ok-run.run'.size c.in_ok-run.ensures.size
+
+pub returns-clause-further : goal.returns-clause-further
+returns-clause-further c =
+    let end : c.loop-v.v ≡ length c.args.diagram.now.nodes = omega (arith, c.loop-v-test.false, c.loop-v.auto.v-end, c.count-v-end.ensures.count) in
+    record {
+      alone = c.in_ok-alone.ensures.plan;
+      utilities = record {
+        count = c.loop-v.invariant.1 ∙ end;
+        each = λ v l. c.loop-v.invariant.2 v (omega (arith, l, end));
+      };
+    }
+
+pub returns-clause-size : goal.returns-clause-size
+returns-clause-size c =
+    let end : c.loop-v.v ≡ length c.args.diagram.now.nodes = omega (arith, c.loop-v-test.false, c.loop-v.auto.v-end, c.count-v-end.ensures.count) in
+    let counted = subst (λ n. Counted c.args.diagram.now.nodes c.args.order.now c.args.node n c.loop-v.size) end c.loop-v.invariant.0 in
+    counted.is_size

@@ -1,3 +1,6 @@
+use Rattle.evidence.specs.Faults.{sight_pass}
+use Rattle.evidence.proofs.HandedOn.{out_of_memory}
+use Rattle.std.proofs.lemmas.Result.{IfOk-from_err}
 use Rattle.std.proofs.Common.{sym, subst}
 use Rattle.maid_model.specs.Diagrams.{IsDiagram}
 use Rattle.maid_model.specs.Views.{DiagramView}
@@ -11,3 +14,24 @@ from_nodes-requires c =
     (seen_diagram c.seen_everywhere.ensures.kept d c.args.node c.agents.ensures.diagram
     (record { kind = c.requires.kind; above = λ e k h. let t = c.is_below_decision.ensures.1 (record { decision = e; is_decision = k; path = h }) in cc })
     (c.keeps_rules.ensures.0 c.if-not-keeps_rules.false))
+
+pub is_below_decision-requires-clause-within : goal.is_below_decision-requires-clause-within
+is_below_decision-requires-clause-within c = c.requires.within
+
+pub is_below_decision-requires-clause-kind : goal.is_below_decision-requires-clause-kind
+is_below_decision-requires-clause-kind c = c.requires.kind
+
+pub keeps_rules-requires : goal.keeps_rules-requires
+keeps_rules-requires c = c.requires.within
+
+pub returns-in_err-nodes-clause-rows : goal.returns-in_err-nodes-clause-rows
+returns-in_err-nodes-clause-rows c = out_of_memory (sight_pass c.args.diagram.now c.args.node) _ c.from_residual.ensures
+
+pub returns-in_err-nodes-clause-diagram : goal.returns-in_err-nodes-clause-diagram
+returns-in_err-nodes-clause-diagram c = IfOk-from_err _ _ c.from_residual.ensures.0
+
+pub returns-in_err-nodes-clause-evidence : goal.returns-in_err-nodes-clause-evidence
+returns-in_err-nodes-clause-evidence c = IfOk-from_err _ _ c.from_residual.ensures.0
+
+pub returns-in_err-nodes-clause-seen : goal.returns-in_err-nodes-clause-seen
+returns-in_err-nodes-clause-seen c = IfOk-from_err _ _ c.from_residual.ensures.0

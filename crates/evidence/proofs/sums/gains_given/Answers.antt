@@ -1,4 +1,9 @@
-use Rattle.std.proofs.Common.{◌<◌, refl, arith}
+use Rattle.rule_solver.specs.Rooms.{AreReady}
+use Rattle.evidence.specs.Plans.{HasUtilityPlans}
+use Rattle.evidence.specs.Faults.{impossible_pass}
+use Rattle.evidence.proofs.HandedOn.{out_of_memory}
+use Rattle.std.proofs.lemmas.Result.{IfOk-from_err}
+use Rattle.std.proofs.Common.{◌<◌, refl, arith, sym, subst}
 use Rattle.evidence.proofs.Conditional.{impossible_is, possible_is}
 use Rattle.evidence.proofs.sums.gains_given.Goals as goal
 
@@ -13,3 +18,42 @@ pub returns-clause-rows : goal.returns-clause-rows
 returns-clause-rows c =
     let some : 0 < c.in_ok-mass.mass = omega (arith, c.if-mass-eq0.false) in
     possible_is c.args.diagram.now c.args.profile.now c.args.node c.args.state c.in_ok-mass.ensures.diagram c.requires.setting.within c.requires.setting.profile c.requires.setting.rules c.requires.setting.has_state c.in_ok-mass.mass c.in_ok-mass.ensures.mass some
+
+pub mass_at-requires-clause-setting : goal.mass_at-requires-clause-setting
+mass_at-requires-clause-setting c = c.requires.setting
+
+pub mass_at-requires-clause-planned : goal.mass_at-requires-clause-planned
+mass_at-requires-clause-planned c = c.requires.planned.alone
+
+pub mass_at-requires-clause-ready : goal.mass_at-requires-clause-ready
+mass_at-requires-clause-ready c = (c.requires.ready.0, c.requires.ready.1, c.requires.ready.2.alone)
+
+pub returns-in_err-mass-clause-rows : goal.returns-in_err-mass-clause-rows
+returns-in_err-mass-clause-rows c = out_of_memory (impossible_pass c.args.diagram.now c.args.node c.args.state) _ c.from_residual.ensures
+
+pub returns-in_err-mass-clause-gains : goal.returns-in_err-mass-clause-gains
+returns-in_err-mass-clause-gains c = IfOk-from_err _ _ c.from_residual.ensures.0
+
+pub list_gains-requires-clause-setting : goal.list_gains-requires-clause-setting
+list_gains-requires-clause-setting c = c.requires.setting
+
+pub list_gains-requires-clause-planned : goal.list_gains-requires-clause-planned
+list_gains-requires-clause-planned c = subst (HasUtilityPlans c.args.diagram.now.nodes c.args.node) (sym c.deref.ensures.value) c.requires.planned.utilities
+
+pub list_gains-requires-clause-ready : goal.list_gains-requires-clause-ready
+list_gains-requires-clause-ready c = (c.requires.ready.0, subst (AreReady c.requires.ready.0) (sym c.in_ok-mass.ensures.again) c.requires.ready.1, c.requires.ready.2)
+
+pub list_gains-requires-clause-mass : goal.list_gains-requires-clause-mass
+list_gains-requires-clause-mass c = c.in_ok-mass.ensures.mass
+
+pub list_gains-requires-clause-positive : goal.list_gains-requires-clause-positive
+list_gains-requires-clause-positive c = omega (arith, c.if-mass-eq0.false)
+
+pub returns-in_err-gains-clause-rows : goal.returns-in_err-gains-clause-rows
+returns-in_err-gains-clause-rows c = out_of_memory (impossible_pass c.args.diagram.now c.args.node c.args.state) _ c.from_residual-in_err-gains.ensures
+
+pub returns-in_err-gains-clause-gains : goal.returns-in_err-gains-clause-gains
+returns-in_err-gains-clause-gains c = IfOk-from_err _ _ c.from_residual-in_err-gains.ensures.0
+
+pub returns-clause-gains : goal.returns-clause-gains
+returns-clause-gains c = c.in_ok-gains.ensures.gains

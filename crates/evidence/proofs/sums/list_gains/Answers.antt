@@ -1,3 +1,5 @@
+use borrow.Author.Count.{falls}
+use Rattle.std.proofs.lemmas.Result.{IfOk-from_err}
 use Rattle.std.proofs.Common.{◌<◌, ◌+◌, List, sym, subst}
 use Rattle.maid_model.specs.declared.answers.Ratio.{Ratio}
 use Rattle.evidence.specs.Conditional.{HasGainsGiven}
@@ -26,3 +28,24 @@ loop-agent-preserved c =
     (expected_is d p c.args.node c.args.state c.agents.ensures.diagram c.requires.setting.within c.requires.setting.profile c.requires.setting.rules c.requires.setting.has_state c.args.mass c.requires.mass c.deref.result.now
     (subst (HasWorthsAt d.nodes p c.args.node c.args.state) (sym c.deref.ensures.value) c.in_ok-worths.ensures)
     c.scopes_of_evidence.ensures.utilities c.requires.positive c.loop-agent.agent c.expected.result c.expected.ensures (scale_some d.decimals)))
+
+pub list_worths-requires-clause-setting : goal.list_worths-requires-clause-setting
+list_worths-requires-clause-setting c = c.requires.setting
+
+pub list_worths-requires-clause-planned : goal.list_worths-requires-clause-planned
+list_worths-requires-clause-planned c = c.requires.planned
+
+pub list_worths-requires-clause-ready : goal.list_worths-requires-clause-ready
+list_worths-requires-clause-ready c = c.requires.ready
+
+pub returns-in_err-worths : goal.returns-in_err-worths
+returns-in_err-worths c = record { gains = IfOk-from_err _ _ c.from_residual.ensures.0 }
+
+pub returns-in_err-gains : goal.returns-in_err-gains
+returns-in_err-gains c = record { gains = IfOk-from_err _ _ c.from_residual-in_err-gains.ensures.0 }
+
+pub returns-in_err-push : goal.returns-in_err-push
+returns-in_err-push c = record { gains = IfOk-from_err _ _ c.from_residual-in_err-push.ensures.0 }
+
+pub loop-agent-smaller : goal.loop-agent-smaller
+loop-agent-smaller c = falls _ _ c.loop-agent-test.true

@@ -1,3 +1,4 @@
+use Rattle.std.proofs.lemmas.Result.{IfOk-from_err}
 use Rattle.std.proofs.Common.{rules, ◌∙◌, ◌≤◌, ◌*◌, FitsSigned, sym, subst, ap, nat_abs}
 use Rattle.std.specs.Int.{w128}
 use Rattle.std.proofs.lemmas.Int.{to_z-of_z}
@@ -34,3 +35,27 @@ returns-clause-mass c = λ q r at.
     c.unsigned_abs.ensures.value
     ∙ ap nat_abs (to_z-of_z w128 c.in_ok-sum.sum fits ∙ c.in_ok-sum.ensures.sum q r at ∙ ap (λ (plan : PlanView). plan_sum gain_cells nodes p plan q) c.requires.planned.made.plan)
     ∙ mass_number nodes p c.args.node q
+
+pub sum_at-requires-clause-within : goal.sum_at-requires-clause-within
+sum_at-requires-clause-within c = c.requires.setting.within
+
+pub sum_at-requires-clause-state : goal.sum_at-requires-clause-state
+sum_at-requires-clause-state c = c.requires.setting.has_state
+
+pub sum_at-requires-clause-profile : goal.sum_at-requires-clause-profile
+sum_at-requires-clause-profile c = c.requires.setting.profile
+
+pub returns-in_err-sum-clause-mass : goal.returns-in_err-sum-clause-mass
+returns-in_err-sum-clause-mass c = IfOk-from_err _ _ c.from_residual.ensures.0
+
+pub returns-in_err-sum-clause-again : goal.returns-in_err-sum-clause-again
+returns-in_err-sum-clause-again c = IfOk-from_err _ _ c.from_residual.ensures.0
+
+pub returns-in_err-sum-clause-diagram : goal.returns-in_err-sum-clause-diagram
+returns-in_err-sum-clause-diagram c = c.count-count.ensures.diagram
+
+pub returns-clause-diagram : goal.returns-clause-diagram
+returns-clause-diagram c = c.count-count.ensures.diagram
+
+pub returns-clause-again : goal.returns-clause-again
+returns-clause-again c = c.in_ok-sum.ensures.again

@@ -1,4 +1,4 @@
-use Rattle.std.proofs.Common.{◌∙◌, ◌≤◌, ◌*◌, sym, subst, ap}
+use Rattle.std.proofs.Common.{◌∙◌, ◌≤◌, ◌*◌, sym, subst, ap, arith}
 use Rattle.cell_rings.specs.Rings.{most_size}
 use Rattle.eliminate.specs.Results.{plan_total}
 use Rattle.plan_sums.specs.Plans.{PlanView, gain_cells, plan_sum}
@@ -34,3 +34,15 @@ returns-clause-worth c =
     if_ok c.sum_at.result (IsSumAt nodes p c.args.plan.now.plan c.args.node c.args.state) (IsWorthGivenAt nodes p c.args.node c.args.state c.args.utility)
     (λ sum h q r at. h q r at ∙ ap (λ (plan : PlanView). plan_sum gain_cells nodes p plan q) c.requires.planned.made.plan)
     c.sum_at.ensures.sum
+
+pub sum_at-requires-clause-within : goal.sum_at-requires-clause-within
+sum_at-requires-clause-within c = c.requires.setting.within
+
+pub sum_at-requires-clause-state : goal.sum_at-requires-clause-state
+sum_at-requires-clause-state c = omega (arith, c.requires.setting.has_state)
+
+pub sum_at-requires-clause-profile : goal.sum_at-requires-clause-profile
+sum_at-requires-clause-profile c = c.requires.setting.profile
+
+pub returns-clause-again : goal.returns-clause-again
+returns-clause-again c = c.sum_at.ensures.again

@@ -1,9 +1,12 @@
-use Rattle.std.proofs.Common.{◌∙◌, ◌++◌, [], cond, All, Vec, Global, map, sym, ap, subst}
+use Rattle.std.proofs.Common.{◌∙◌, ◌<◌, ℕ, arith, filter, flat_map, ◌++◌, [], cond, All, Vec, Global, map, sym, ap, subst}
 use Rattle.std.proofs.lemmas.List.{append-nil}
+use Rattle.std.proofs.lemmas.Result.{IfOk-from_err}
+use Rattle.std.specs.List.{range_with_len}
 use Rattle.info_value.specs.declared.lines.InfoLine.{InfoLine}
 use Rattle.info_value.specs.Alone.{IsInfoLineAlone}
 use Rattle.info_value.specs.Lines.{arc_of, arcs_into, decides}
 use Rattle.info_value.proofs.Ranges.{lists_more}
+use borrow.Author.Count.{falls}
 use Rattle.info_value.proofs.lines.info_lines.Goals.{then-decides+in_ok-push_lines_into, else-decides}
 use Rattle.info_value.proofs.lines.info_lines.Goals as goal
 
@@ -29,3 +32,27 @@ loop-v-preserved c =
             lines = subst (λ (l : Vec InfoLine Global). All IsLine l.items) (sym w.lines-is) c.loop-v.invariant.lines;
           }
     ]
+
+pub returns-in_err-push_lines_into-clause-arcs : goal.returns-in_err-push_lines_into-clause-arcs
+returns-in_err-push_lines_into-clause-arcs c = IfOk-from_err _ _ c.from_residual.ensures.0
+
+pub returns-in_err-push_lines_into-clause-lines : goal.returns-in_err-push_lines_into-clause-lines
+returns-in_err-push_lines_into-clause-lines c = IfOk-from_err _ _ c.from_residual.ensures.0
+
+pub loop-v-smaller : goal.loop-v-smaller
+loop-v-smaller c = falls _ _ c.loop-v-test.true
+
+pub returns-clause-arcs : goal.returns-clause-arcs
+returns-clause-arcs c =
+    let nodes = c.args.diagram.now.nodes in
+    let made = λ (n : ℕ). flat_map (arcs_into nodes) (filter (decides nodes c.args.baseline.now.agent) (range_with_len 0 n)) in
+    c.loop-v.invariant.arcs ∙ ap made (omega (arith, c.loop-v-test.false, c.loop-v.auto.v-end, c.count-v-end.ensures.count))
+
+pub returns-clause-lines : goal.returns-clause-lines
+returns-clause-lines c = c.loop-v.invariant.lines
+
+pub push_lines_into-requires-clause-asked : goal.push_lines_into-requires-clause-asked
+push_lines_into-requires-clause-asked c = c.requires.asked c.loop-v.v (subst (λ n. c.loop-v.v < n) c.count-v-end.ensures.count c.loop-v-test.true) (sym c.decides.ensures ∙ c.if-decides.true)
+
+pub push_lines_into-requires-clause-within : goal.push_lines_into-requires-clause-within
+push_lines_into-requires-clause-within c = subst (λ n. c.loop-v.v < n) c.count-v-end.ensures.count c.loop-v-test.true

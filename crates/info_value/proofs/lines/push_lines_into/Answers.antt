@@ -1,11 +1,13 @@
-use Rattle.std.proofs.Common.{◌∙◌, ℕ, ◌++◌, [], ◌∷◌, cond, All, List, Vec, Global, map, filter, sym, ap, subst, append_assoc}
+use Rattle.std.proofs.Common.{◌∙◌, ◌<◌, ℕ, arith, ◌++◌, [], ◌∷◌, cond, All, List, Vec, Global, map, filter, sym, ap, subst, append_assoc}
 use Rattle.std.proofs.lemmas.List.{append-nil, map-append}
 use Rattle.std.proofs.lemmas.List.Elements.{All-append, All-cons, All-nil}
 use Rattle.std.specs.List.{range_with_len}
+use Rattle.std.proofs.lemmas.Result.{IfOk-from_err}
 use Rattle.info_value.specs.declared.lines.InfoLine.{InfoLine}
 use Rattle.info_value.specs.Alone.{IsInfoLineAlone}
 use Rattle.info_value.specs.Lines.{arc_of, may_see}
 use Rattle.info_value.proofs.Ranges.{pairs_more}
+use borrow.Author.Count.{falls}
 use Rattle.info_value.proofs.lines.push_lines_into.Goals.{then-may_see+in_ok-info_line+in_ok-push, else-may_see}
 use Rattle.info_value.proofs.lines.push_lines_into.Goals as goal
 
@@ -42,3 +44,36 @@ loop-v-preserved c =
             lines = λ all. subst (λ (l : Vec InfoLine Global). All IsLine l.items) (sym w.lines-is) (c.loop-v.invariant.lines all);
           }
     ]
+
+pub returns-in_err-info_line-clause-arcs : goal.returns-in_err-info_line-clause-arcs
+returns-in_err-info_line-clause-arcs c = IfOk-from_err _ _ c.from_residual.ensures.0
+
+pub returns-in_err-info_line-clause-lines : goal.returns-in_err-info_line-clause-lines
+returns-in_err-info_line-clause-lines c = IfOk-from_err _ _ c.from_residual.ensures.0
+
+pub returns-in_err-push-clause-arcs : goal.returns-in_err-push-clause-arcs
+returns-in_err-push-clause-arcs c = IfOk-from_err _ _ c.from_residual-in_err-push.ensures.0
+
+pub returns-in_err-push-clause-lines : goal.returns-in_err-push-clause-lines
+returns-in_err-push-clause-lines c = IfOk-from_err _ _ c.from_residual-in_err-push.ensures.0
+
+pub loop-v-smaller : goal.loop-v-smaller
+loop-v-smaller c = falls _ _ c.loop-v-test.true
+
+pub loop-v-init : goal.loop-v-init
+loop-v-init c = record { arcs = sym (append-nil (map arc_of c.args.lines.now.items)); lines = λ all. all }
+
+pub returns-clause-arcs : goal.returns-clause-arcs
+returns-clause-arcs c =
+    let d = c.args.decision in
+    let made = λ (n : ℕ). map arc_of c.args.lines.now.items ++ map (λ (x : ℕ). (x, d)) (filter (may_see c.args.diagram.now.nodes d) (range_with_len 0 n)) in
+    c.loop-v.invariant.arcs ∙ ap made (omega (arith, c.loop-v-test.false, c.loop-v.auto.v-end, c.count-v-end.ensures.count))
+
+pub returns-clause-lines : goal.returns-clause-lines
+returns-clause-lines c = c.loop-v.invariant.lines
+
+pub info_line-requires-clause-asked : goal.info_line-requires-clause-asked
+info_line-requires-clause-asked c = c.requires.asked.arcs c.loop-v.v (subst (λ n. c.loop-v.v < n) c.count-v-end.ensures.count c.loop-v-test.true) (sym c.may_see.ensures ∙ c.if-may_see.true)
+
+pub may_see-requires-clause-within : goal.may_see-requires-clause-within
+may_see-requires-clause-within c = subst (λ n. c.loop-v.v < n) c.count-v-end.ensures.count c.loop-v-test.true

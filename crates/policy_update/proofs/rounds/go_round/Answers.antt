@@ -46,3 +46,15 @@ loop-place-preserved c =
 
 pub returns-clause-raised : goal.returns-clause-raised
 returns-clause-raised c = rises_tell c.args.diagram.now.nodes c.requires.owner.0 c.loop-place.raised c.args.profile.now c.loop-place.profile (c.loop-place.invariant.2 c.requires.owner.0 c.requires.owner.1)
+
+pub improve-requires-clause-bound : goal.improve-requires-clause-bound
+improve-requires-clause-bound c = c.requires.bound
+
+pub improve-requires-clause-plan : goal.improve-requires-clause-plan
+improve-requires-clause-plan c = c.loop-place.invariant.0
+
+pub returns-clause-plan : goal.returns-clause-plan
+returns-clause-plan c = c.loop-place.invariant.0
+
+pub returns-clause-again : goal.returns-clause-again
+returns-clause-again c = c.loop-place.invariant.3

@@ -1,4 +1,4 @@
-use Rattle.std.proofs.Common.{◌≡◌, ◌∙◌, ◌<◌, false, true, List, All, get_or, length, map, sym, ap, subst, rules}
+use Rattle.std.proofs.Common.{◌≡◌, ◌∙◌, ◌<◌, false, true, List, All, get_or, length, map, sym, ap, subst, rules, refl}
 use Rattle.maid_model.specs.declared.answers.Row.{Row}
 use Rattle.maid_model.specs.Nodes.{states_of}
 use Rattle.maid_model.specs.Profiles.{HasRule, IsRule, Replaces, pure_rule}
@@ -89,3 +89,25 @@ returns-clause-changed c =
   where
     not_both : false ≡ true → ⊥
     not_both e = cc
+
+pub improvement-requires-clause-bound : goal.improvement-requires-clause-bound
+improvement-requires-clause-bound c = c.requires.bound
+
+pub improvement-requires-clause-fits : goal.improvement-requires-clause-fits
+improvement-requires-clause-fits c = c.requires.plan.choices.fits c.args.place c.index-answers-place.result c.requires.place
+
+pub are_same_choices-requires : goal.are_same_choices-requires
+are_same_choices-requires c =
+    ap (λ (l : List Row). length l) c.deref.ensures.value ∙ c.in_ok-rows.ensures.rows.count ∙ sym (ap (λ (l : List Row). length l) (c.deref-2.ensures.value ∙ ap (λ (a : AnswerView). a.rows) c.answer.view_is))
+
+pub returns-then-are_same_choices-clause-plan : goal.returns-then-are_same_choices-clause-plan
+returns-then-are_same_choices-clause-plan c = c.requires.plan
+
+pub returns-then-are_same_choices-clause-again : goal.returns-then-are_same_choices-clause-again
+returns-then-are_same_choices-clause-again c = c.in_ok-rows.ensures.again
+
+pub returns-then-are_same_choices-clause-changed : goal.returns-then-are_same_choices-clause-changed
+returns-then-are_same_choices-clause-changed c = refl
+
+pub returns-clause-again : goal.returns-clause-again
+returns-clause-again c = c.in_ok-rows.ensures.again

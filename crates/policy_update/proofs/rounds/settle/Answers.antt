@@ -17,3 +17,18 @@ loop-raised-preserved c =
       subst (λ n. IsReachedAfter c.args.diagram.now.nodes n c.go_round.new.profile) (sym (add-one c.loop-raised.raised)) (Raised c.loop-raised.invariant.1 c.in_ok-go_round.ensures.round differ),
       c.in_ok-go_round.ensures.again ∙ c.loop-raised.invariant.2,
     )
+
+pub go_round-requires-clause-bound : goal.go_round-requires-clause-bound
+go_round-requires-clause-bound c = c.requires.bound
+
+pub go_round-requires-clause-owner : goal.go_round-requires-clause-owner
+go_round-requires-clause-owner c = c.requires.owner
+
+pub go_round-requires-clause-plan : goal.go_round-requires-clause-plan
+go_round-requires-clause-plan c = c.loop-raised.invariant.0
+
+pub returns-clause-plan : goal.returns-clause-plan
+returns-clause-plan c = c.loop-raised.invariant.0
+
+pub returns-clause-again : goal.returns-clause-again
+returns-clause-again c = c.loop-raised.invariant.2

@@ -14,6 +14,9 @@ use Rattle.policy_update.proofs.Owners.{decision_at, owns_like}
 use Rattle.policy_update.proofs.Plans.{first_plan, first_start, plan_pure}
 use Rattle.policy_update.proofs.Rising.{some_decision}
 use Rattle.policy_update.proofs.Spent.{never_reached}
+use Rattle.policy_update.proofs.Refused.{out_of_memory}
+use Rattle.policy_update.specs.Faults.{rounds_pass}
+use Rattle.std.proofs.lemmas.Result.{IfOk-from_err}
 use Rattle.policy_update.proofs.updating.update_within.Goals as goal
 
 pub settle-requires-clause-plan : goal.settle-requires-clause-plan
@@ -95,3 +98,51 @@ returns-in-Some-clause-ok c =
       result = subst (IsUpdated d.nodes c.in-Some.raised) rules settled.updated;
       gains = subst (λ p. HasGains d p d.agents c.in_ok-gains.gains.items) rules c.in_ok-gains.ensures.gains;
     }
+
+pub first_choices-requires : goal.first_choices-requires
+first_choices-requires c = c.requires.decisions
+
+pub overflow_cast-run : goal.overflow_cast-run
+overflow_cast-run c = omega (arith, c.requires.run.limit)
+
+pub settle-requires-clause-bound : goal.settle-requires-clause-bound
+settle-requires-clause-bound c = c.requires.bound
+
+pub settle-requires-clause-owner : goal.settle-requires-clause-owner
+settle-requires-clause-owner c = c.requires.owner
+
+pub expected_by-requires-clause-bound : goal.expected_by-requires-clause-bound
+expected_by-requires-clause-bound c = c.requires.bound
+
+pub owner-requires-clause-decisions : goal.owner-requires-clause-decisions
+owner-requires-clause-decisions c = c.requires.decisions
+
+pub returns-in_err-answers-clause-rows : goal.returns-in_err-answers-clause-rows
+returns-in_err-answers-clause-rows c = out_of_memory (rounds_pass c.args.diagram.now c.args.rounds) _ c.from_residual.ensures
+
+pub returns-in_err-answers-clause-ok : goal.returns-in_err-answers-clause-ok
+returns-in_err-answers-clause-ok c = IfOk-from_err _ _ c.from_residual.ensures.0
+
+pub returns-in_err-profile-clause-rows : goal.returns-in_err-profile-clause-rows
+returns-in_err-profile-clause-rows c = out_of_memory (rounds_pass c.args.diagram.now c.args.rounds) _ c.from_residual-in_err-profile.ensures
+
+pub returns-in_err-profile-clause-ok : goal.returns-in_err-profile-clause-ok
+returns-in_err-profile-clause-ok c = IfOk-from_err _ _ c.from_residual-in_err-profile.ensures.0
+
+pub returns-in_err-spaces-clause-rows : goal.returns-in_err-spaces-clause-rows
+returns-in_err-spaces-clause-rows c = out_of_memory (rounds_pass c.args.diagram.now c.args.rounds) _ c.from_residual-in_err-spaces.ensures
+
+pub returns-in_err-spaces-clause-ok : goal.returns-in_err-spaces-clause-ok
+returns-in_err-spaces-clause-ok c = IfOk-from_err _ _ c.from_residual-in_err-spaces.ensures.0
+
+pub returns-in_err-settled-clause-rows : goal.returns-in_err-settled-clause-rows
+returns-in_err-settled-clause-rows c = out_of_memory (rounds_pass c.args.diagram.now c.args.rounds) _ c.from_residual-in_err-settled.ensures
+
+pub returns-in_err-settled-clause-ok : goal.returns-in_err-settled-clause-ok
+returns-in_err-settled-clause-ok c = IfOk-from_err _ _ c.from_residual-in_err-settled.ensures.0
+
+pub returns-in_err-gains-clause-rows : goal.returns-in_err-gains-clause-rows
+returns-in_err-gains-clause-rows c = out_of_memory (rounds_pass c.args.diagram.now c.args.rounds) _ c.from_residual-in_err-gains.ensures
+
+pub returns-in_err-gains-clause-ok : goal.returns-in_err-gains-clause-ok
+returns-in_err-gains-clause-ok c = IfOk-from_err _ _ c.from_residual-in_err-gains.ensures.0

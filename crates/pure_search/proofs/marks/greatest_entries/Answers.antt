@@ -1,10 +1,12 @@
-use Rattle.std.proofs.Common.{◌≡◌, ◌∙◌, ◌<◌, ◌+◌, length, get_or, set, sym, ap, subst, rules, pos, true, false, FitsSigned}
+use Rattle.std.proofs.Common.{◌≡◌, ◌∙◌, ◌<◌, ◌+◌, length, get_or, set, sym, ap, subst, rules, pos, true, false, arith, FitsSigned}
 use Rattle.std.proofs.lemmas.Int.{to_z-of_z}
-use Rattle.std.proofs.lemmas.List.{get_or_default}
+use Rattle.std.proofs.lemmas.List.{get_or-replicate, get_or_default}
+use Rattle.std.proofs.lemmas.Result.{IfOk-from_err}
+use borrow.Author.Count.{falls}
 use Rattle.std.specs.Int.{w128}
 use Rattle.std.specs.Int.Signed.{lt_z}
-use Rattle.pure_search.specs.Games.{AreGreatest}
-use Rattle.pure_search.proofs.Entries.{less_told, not_less_told, seen_greater, seen_less}
+use Rattle.pure_search.specs.Games.{AreGreatest, least_signed}
+use Rattle.pure_search.proofs.Entries.{less_told, none_seen, not_less_told, seen_greater, seen_less}
 use Rattle.pure_search.proofs.marks.greatest_entries.Goals as goal
 use Rattle.pure_search.proofs.marks.greatest_entries.Goals.{then-index-gain, else-index-gain}
 
@@ -29,3 +31,35 @@ loop-place-preserved c =
           subst (AreGreatest keys gains (c.loop-place.place + 1)) (sym (ap (λ v. v.items) w.best-is))
           (seen_less keys gains best c.loop-place.place key gain c.loop-place.invariant within (λ i. key) (λ i. gain) (not_less_told (get_or best key (pos 0)) gain told))
     ]
+
+pub bounds-gains-place : goal.bounds-gains-place
+bounds-gains-place c = c.loop-place-test.true
+
+pub bounds-keys-place : goal.bounds-keys-place
+bounds-keys-place c = subst (λ n. c.loop-place.place < n) (sym c.requires.len) c.loop-place-test.true
+
+pub loop-place-smaller : goal.loop-place-smaller
+loop-place-smaller c = falls _ _ c.loop-place-test.true
+
+pub returns : goal.returns
+returns c =
+    let end : c.loop-place.place ≡ length c.args.gains.now = let h = c.loop-place-test.false in let k = c.loop-place.auto.place-end in omega (arith, h, k) in
+    subst (λ n. AreGreatest c.args.keys.now c.args.gains.now n c.loop-place.best.items) end c.loop-place.invariant
+
+pub returns-in_err-best : goal.returns-in_err-best
+returns-in_err-best c = IfOk-from_err _ _ c.from_residual.ensures.0
+
+pub index-requires : goal.index-requires
+index-requires c =
+    subst (λ n. get_or c.args.keys.now c.loop-place.place 0 < n) (sym (c.loop-place.best.ok.0 ∙ c.loop-place.invariant.len))
+    (c.requires.keys c.loop-place.place 0 (subst (λ n. c.loop-place.place < n) (sym c.requires.len) c.loop-place-test.true))
+
+pub index_mut-requires : goal.index_mut-requires
+index_mut-requires c =
+    subst (λ n. get_or c.args.keys.now c.loop-place.place 0 < n) (sym (c.loop-place.best.ok.0 ∙ c.loop-place.invariant.len))
+    (c.requires.keys c.loop-place.place 0 (subst (λ n. c.loop-place.place < n) (sym c.requires.len) c.loop-place-test.true))
+
+pub loop-place-init : goal.loop-place-init
+loop-place-init c =
+    none_seen c.args.keys.now c.args.gains.now c.in_ok-best.best.items (sym c.in_ok-best.best.ok.0 ∙ c.in_ok-best.ensures.len)
+    (λ key l. ap (λ b. get_or b key (pos 0)) (c.in_ok-best.ensures.items_if_clones_equal (λ y e. e)) ∙ get_or-replicate (length c.args.gains.now) key least_signed (pos 0) l)

@@ -1,3 +1,4 @@
+use Rattle.std.proofs.Common.{◌-◌, arith}
 use Rattle.pure_search.proofs.Steps.{turn_back, turn_is, turn_more}
 use Rattle.pure_search.proofs.odometer.next_choices.Goals as goal
 
@@ -9,3 +10,15 @@ returns-then-choice-counts-clause-more c = λ _. turn_more c.args.counts.now c.a
 
 pub loop-place-preserved : goal.loop-place-preserved
 loop-place-preserved c = turn_back c.args.counts.now c.args.choices.now c.loop-place.choices c.loop-place.place c.requires c.loop-place.invariant c.loop-place-test.true c.if-choice-counts.false
+
+pub bounds-choices-place : goal.bounds-choices-place
+bounds-choices-place c = omega (arith, c.loop-place-test.true, c.loop-place.invariant.within, c.loop-place.auto.choices)
+
+pub bounds-counts-place : goal.bounds-counts-place
+bounds-counts-place c = omega (arith, c.loop-place-test.true, c.loop-place.invariant.within, c.requires.len)
+
+pub overflow_sub-counts : goal.overflow_sub-counts
+overflow_sub-counts c = omega (arith, c.requires.each (c.loop-place.place - 1) (omega (arith, c.loop-place-test.true, c.loop-place.invariant.within)))
+
+pub overflow_add-choices : goal.overflow_add-choices
+overflow_add-choices c = omega (arith, c.type_inv.counts (c.loop-place.place - 1), c.if-choice-counts.true)

@@ -6,3 +6,18 @@ hold_by_gains-requires c = record { setting = c.requires; controlled = c.in_ok-f
 
 pub returns-then-all_stand-clause-held : goal.returns-then-all_stand-clause-held
 returns-then-all_stand-clause-held c = all_held _ (record { setting = c.requires; controlled = c.in_ok-find_controlled.ensures }) (c.all_stand.ensures.0 c.if-all_stand.true) c.all_fractions.result c.all_fractions.ensures.all
+
+pub find_controlled-requires : goal.find_controlled-requires
+find_controlled-requires c = c.requires.cell.kind
+
+pub all_stand-requires : goal.all_stand-requires
+all_stand-requires c = record { setting = record { setting = c.requires; controlled = c.in_ok-find_controlled.ensures } }
+
+pub returns-then-all_stand-clause-range : goal.returns-then-all_stand-clause-range
+returns-then-all_stand-clause-range c = c.all_fractions.ensures.range
+
+pub returns-clause-range : goal.returns-clause-range
+returns-clause-range c = c.hold_by_gains.ensures.range
+
+pub returns-clause-held : goal.returns-clause-held
+returns-clause-held c = c.hold_by_gains.ensures.held

@@ -5,6 +5,7 @@ use Rattle.threshold.specs.declared.weights.Place.{Place}
 use Rattle.threshold.specs.Weights.{IsCell}
 use Rattle.threshold.proofs.Assembling.{somewhere, span_is}
 use Rattle.threshold.proofs.Tables.{is_place}
+use Rattle.std.proofs.lemmas.Result.{IfOk-from_err}
 use Rattle.threshold.proofs.interval.span.Goals as goal
 
 pub hold_answers-requires : goal.hold_answers-requires
@@ -66,3 +67,27 @@ returns-clause-perfect c num den moved p q m l h =
     let law = c.stays_best.ensures.answer d solved c.args.node c.args.state c.args.row is.graph is.tables c.requires.answer at in
     let span = span_is d.nodes (answered d solved) place is.graph is.tables at law.0 law.1 law.2 c.in_ok-held.held c.in_ok-held.ensures.range c.in_ok-held.ensures.held c.fraction-2.result c.fraction-3.result c.fraction-2.ensures c.fraction-3.ensures in
     c.held_is_perfect.ensures.law d.nodes (answered d solved) c.args.node c.args.state c.args.row num den moved is.graph (c.answers_are_best.ensures.answers d solved is.graph is.tables c.requires.answer) at m (λ v k. span.holds num den moved p q m l h v k)
+
+pub returns-in_err-ends-clause-now : goal.returns-in_err-ends-clause-now
+returns-in_err-ends-clause-now c = IfOk-from_err _ _ c.from_residual.ensures.0
+
+pub returns-in_err-ends-clause-span : goal.returns-in_err-ends-clause-span
+returns-in_err-ends-clause-span c = IfOk-from_err _ _ c.from_residual.ensures.0
+
+pub returns-in_err-ends-clause-only : goal.returns-in_err-ends-clause-only
+returns-in_err-ends-clause-only c = IfOk-from_err _ _ c.from_residual.ensures.0
+
+pub returns-in_err-ends-clause-perfect : goal.returns-in_err-ends-clause-perfect
+returns-in_err-ends-clause-perfect c = IfOk-from_err _ _ c.from_residual.ensures.0
+
+pub returns-in_err-held-clause-now : goal.returns-in_err-held-clause-now
+returns-in_err-held-clause-now c = IfOk-from_err _ _ c.from_residual-in_err-held.ensures.0
+
+pub returns-in_err-held-clause-span : goal.returns-in_err-held-clause-span
+returns-in_err-held-clause-span c = IfOk-from_err _ _ c.from_residual-in_err-held.ensures.0
+
+pub returns-in_err-held-clause-only : goal.returns-in_err-held-clause-only
+returns-in_err-held-clause-only c = IfOk-from_err _ _ c.from_residual-in_err-held.ensures.0
+
+pub returns-in_err-held-clause-perfect : goal.returns-in_err-held-clause-perfect
+returns-in_err-held-clause-perfect c = IfOk-from_err _ _ c.from_residual-in_err-held.ensures.0

@@ -1,6 +1,7 @@
-use Rattle.std.proofs.Common.{◌≡◌, ◌∙◌, ℕ, ◌+◌, ◌*◌, ◌<◌, ap, subst, pos, arith, to_z}
+use Rattle.std.proofs.Common.{◌≡◌, ◌∙◌, ℕ, ℤ, List, ◌+◌, ◌*◌, ◌<◌, ap, subst, pos, arith, to_z}
 use Rattle.std.specs.Int.{w128}
 use Rattle.std.proofs.lemmas.Int.{to_z_pos}
+use Rattle.std.proofs.lemmas.Result.{IfOk-from_err}
 use Rattle.maid_model.specs.Nodes.{states_of}
 use Rattle.threshold.specs.Weights.{new_cells}
 use Rattle.threshold.proofs.Tables.{cells_more}
@@ -14,9 +15,8 @@ loop-state-preserved c =
     let n = states_of c.args.diagram.now.nodes c.args.place.node in
     let small = c.new_weight.ensures.small in
     let cell : to_z w128 c.new_weight.result ≡ pos c.new_weight.result = to_z_pos w128 c.new_weight.result (omega arith) in
-    c.in_ok-push.ensures.items
-    ∙ cells_more c.args.diagram.now.nodes c.args.place c.args.scales c.loop-state.state c.loop-row.row c.loop-state.cells.items (to_z w128 c.new_weight.result) (subst (λ k. c.loop-state.state < k) c.states-states.ensures.states c.loop-state-test.true) c.loop-state.invariant (cell ∙ ap pos c.new_weight.ensures.weight)
-    ∙ ap (new_cells c.args.diagram.now.nodes c.args.place c.args.scales) (omega arith)
+    ◌∙◌ {A = List ℤ} c.in_ok-push.ensures.items
+    (◌∙◌ {A = List ℤ} (cells_more c.args.diagram.now.nodes c.args.place c.args.scales c.loop-state.state c.loop-row.row c.loop-state.cells.items (to_z w128 c.new_weight.result) (subst (λ k. c.loop-state.state < k) c.states-states.ensures.states c.loop-state-test.true) c.loop-state.invariant (cell ∙ ap pos c.new_weight.ensures.weight)) (ap (new_cells c.args.diagram.now.nodes c.args.place c.args.scales) (omega arith)))
 
 pub loop-row-preserved : goal.loop-row-preserved
 loop-row-preserved c =
@@ -31,3 +31,27 @@ returns c =
     let m = c.loop-row.auto.row-end in
     let e = c.rows-rows.ensures in
     c.loop-row.invariant ∙ ap (λ r. new_cells c.args.diagram.now.nodes c.args.place c.args.scales (r * states_of c.args.diagram.now.nodes c.args.place.node)) (omega arith)
+
+pub loop-state-init : goal.loop-state-init
+loop-state-init c = c.loop-row.invariant ∙ ap (new_cells c.args.diagram.now.nodes c.args.place c.args.scales) (omega arith)
+
+pub new_weight-requires-clause-cell : goal.new_weight-requires-clause-cell
+new_weight-requires-clause-cell c = c.requires.cell
+
+pub new_weight-requires-clause-fits : goal.new_weight-requires-clause-fits
+new_weight-requires-clause-fits c = c.requires.fits
+
+pub new_weight-requires-clause-state : goal.new_weight-requires-clause-state
+new_weight-requires-clause-state c = subst (λ n. c.loop-state.state < n) c.states-states.ensures.states c.loop-state-test.true
+
+pub new_weight-requires-clause-row : goal.new_weight-requires-clause-row
+new_weight-requires-clause-row c = subst (λ n. c.loop-row.row < n) c.rows-rows.ensures c.loop-row-test.true
+
+pub overflow_cast-new_weight : goal.overflow_cast-new_weight
+overflow_cast-new_weight c = omega (arith, c.new_weight.ensures.small)
+
+pub returns-in_err-cells : goal.returns-in_err-cells
+returns-in_err-cells c = IfOk-from_err _ _ c.from_residual.ensures.0
+
+pub returns-in_err-push : goal.returns-in_err-push
+returns-in_err-push c = IfOk-from_err _ _ c.from_residual-in_err-push.ensures.0

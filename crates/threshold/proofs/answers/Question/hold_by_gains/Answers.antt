@@ -36,3 +36,15 @@ narrow_all-requires-clause-ready c =
       c.in_ok-spaces.ensures,
       has_room nodes c.greedy_orders.ensures.one c.args.self.now.solved.now.order c.requires.setting.answer.order c.in_ok-run.run'.size c.descent_is_tested.ensures sized,
     )
+
+pub narrow_all-requires-clause-setting : goal.narrow_all-requires-clause-setting
+narrow_all-requires-clause-setting c = c.requires
+
+pub narrow_all-requires-clause-relevance : goal.narrow_all-requires-clause-relevance
+narrow_all-requires-clause-relevance c = c.in_ok-relevance.ensures
+
+pub returns-clause-range : goal.returns-clause-range
+returns-clause-range c = c.narrow_all.ensures.range
+
+pub returns-clause-held : goal.returns-clause-held
+returns-clause-held c = c.narrow_all.ensures.held

@@ -1,9 +1,10 @@
-use Rattle.std.proofs.Common.{rules, ◌≡◌, ◌∙◌, ◌+◌, ◌<◌, ◌≤◌, length, slice_index_or, sym, ap, subst}
+use Rattle.std.proofs.Common.{rules, ◌≡◌, ◌∙◌, ◌+◌, ◌<◌, ◌≤◌, length, slice_index_or, sym, ap, subst, refl}
 use Rattle.maid_model.specs.Views.{SolvedView}
 use Rattle.rule_solver.specs.Rooms.{AreReady}
-use Rattle.threshold.proofs.Assembling.{held_more, held_end, of_list}
+use Rattle.threshold.proofs.Assembling.{held_more, held_end, of_list, held_start}
 use Rattle.threshold.proofs.Holding.{answer_decides}
 use Rattle.threshold.proofs.Rooms.{plan_within, plans_at}
+use Rattle.maid_model.specs.Answers.{answered}
 use Rattle.threshold.proofs.answers.Question.narrow_all.Goals as goal
 
 -- the plans of this answer are there
@@ -66,3 +67,28 @@ returns-clause-held c =
     let items : c.deref-answer-items.result.now ≡ q.solved.now.answers = c.deref-answer-items.ensures.value ∙ ap (λ (s : SolvedView). s.answers) c.solved.view_is in
     held_end q.diagram.now q.solved.now q.place c.requires.setting.setting.answer.fits c.loop-answer.answer-index c.loop-answer.held c.loop-answer.invariant.0
     (subst (λ l. length l ≤ c.loop-answer.answer-index) items c.loop-answer-test.false) (subst (λ l. c.loop-answer.answer-index ≤ length l) items c.loop-answer.auto.answer-index-end)
+
+pub loop-answer-init : goal.loop-answer-init
+loop-answer-init c = (
+  held_start c.args.self.now.diagram.now.nodes (answered c.args.self.now.diagram.now c.args.self.now.solved.now) c.args.self.now.place c.args.self.now.solved.now.answers c.all_fractions-held.result c.all_fractions-held.ensures.range c.all_fractions-held.ensures.all,
+  refl,
+  refl,
+)
+
+pub narrow-requires-clause-setting : goal.narrow-requires-clause-setting
+narrow-requires-clause-setting c = c.requires.setting
+
+pub narrow-requires-clause-relevance : goal.narrow-requires-clause-relevance
+narrow-requires-clause-relevance c = c.requires.relevance
+
+pub narrow-requires-clause-answer : goal.narrow-requires-clause-answer
+narrow-requires-clause-answer c =
+    let q = c.args.self.now in
+    let items : c.deref-answer-items.result.now ≡ q.solved.now.answers = c.deref-answer-items.ensures.value ∙ ap (λ (s : SolvedView). s.answers) c.solved.view_is in
+    of_list q.diagram.now q.solved.now q.place c.requires.setting.setting.answer.fits c.loop-answer.answer-index c.answer-item.result (subst (λ l. c.loop-answer.answer-index < length l) items c.loop-answer-test.true) (c.answer-item.is ∙ ap (λ l. slice_index_or l c.loop-answer.answer-index c.answer-item.result) items)
+
+pub narrow-requires-clause-range : goal.narrow-requires-clause-range
+narrow-requires-clause-range c = c.loop-answer.invariant.0.narrows.range
+
+pub returns-clause-range : goal.returns-clause-range
+returns-clause-range c = c.loop-answer.invariant.0.narrows.range

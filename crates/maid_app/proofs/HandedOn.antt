@@ -1,0 +1,48 @@
+-- What calls tell is handed on: by a `?`, by a line that is told if there is memory for it, and by a whole write.
+use Rattle.std.proofs.Common.{◌≡◌, ◌==◌, ◌∙◌, false, inl, inr, ◌⊎◌, IfErr, OnOk, OnErr, Result, Ok, Err, sym, ap}
+use Rattle.std.proofs.lemmas.Result.{err_from_is_err_and}
+use Rattle.std.specs.Result.{IsErr, IsErrAnd}
+use Rattle.std.proofs.lemmas.Bool.{false≢true}
+use Rattle.maid_laws.proofs.Booleans.{eqb_yes}
+use Rattle.maid_app.specs.Status.{code_of}
+use Rattle.maid_app.specs.Told.{IsAfterWriting}
+use Rattle.maid_app.specs.declared.status.Status.{Status}
+use Rattle.maid_app.specs.declared.status.Status.TheVariants.{Done, Usage, Absent, ReadFault, TextTooLong, TextFault, Cycle, WeightBound, TooLarge, WriteFault, NoMemory, Rejected, UnknownAgent, NoPure, NotOneAgent, RoundsSpent, UnknownNode, UnknownState, BelowDecision, Impossible, UnknownRow, NoOthers}
+
+-- the fault that a `?` hands on is as it was
+pub err_handed : {A E : Type 0} (r : Result A E) (fault : E) (P : E → Type 0) → IsErr r × IsErrAnd r (λ y. y ≡ fault) → P fault → IfErr r P
+err_handed r fault P is h = let p = err_from_is_err_and r is.1 in rw (p.1, p.2) h
+
+-- a whole write took the text, or a front of it where the count rose
+pub taken : {E A Part Rises : Type 0} (r : Result (Unit {0}) E) → OnOk r A → OnErr r Part → OnErr r Rises → A ⊎ (Rises × Part)
+taken (Ok x) all part rises = inl all
+taken (Err e) all part rises = inr (rises, part)
+
+-- one status is not another, which has a code of its own
+pub other_status : {So : Type 0} (a b : Status) → code_of a == code_of b ≡ false → a ≡ b → So
+other_status a b apart e = absurd (false≢true (sym apart ∙ eqb_yes (code_of a) (code_of b) (ap code_of e)))
+
+-- what neither status behind a whole text meets, no such status does
+pub not_after : (P : Status → Type 0) → (P Done → ⊥) → (P Rejected → ⊥) → (status : Status) → IsAfterWriting status → P status → ⊥
+not_after P done rejected Done after h = done h
+not_after P done rejected Usage after h = after
+not_after P done rejected Absent after h = after
+not_after P done rejected ReadFault after h = after
+not_after P done rejected TextTooLong after h = after
+not_after P done rejected TextFault after h = after
+not_after P done rejected Cycle after h = after
+not_after P done rejected WeightBound after h = after
+not_after P done rejected TooLarge after h = after
+not_after P done rejected WriteFault after h = after
+not_after P done rejected NoMemory after h = after
+not_after P done rejected Rejected after h = rejected h
+not_after P done rejected UnknownAgent after h = after
+not_after P done rejected NoPure after h = after
+not_after P done rejected NotOneAgent after h = after
+not_after P done rejected RoundsSpent after h = after
+not_after P done rejected UnknownNode after h = after
+not_after P done rejected UnknownState after h = after
+not_after P done rejected BelowDecision after h = after
+not_after P done rejected Impossible after h = after
+not_after P done rejected UnknownRow after h = after
+not_after P done rejected NoOthers after h = after
