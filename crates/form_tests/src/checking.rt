@@ -31,26 +31,16 @@ fn whole(num: i128) -> Ratio
     Ratio { num, den: 1 }
 }
 
-/// A row that is worth a whole number.
-fn row(choice: usize, worth: i128) -> Row
+/// A row that is worth a whole number, or is marked as never reached.
+fn row(choice: usize, worth: Option<i128>) -> Row
     ensures choice { result.choice ≡ choice }
     ensures reduced { IfSome result.worth IsReduced }
 {
-    Row {
-        choice,
-        worth: Some(whole(worth)),
-    }
-}
-
-/// A row that is marked as never reached.
-fn never(choice: usize) -> Row
-    ensures choice { result.choice ≡ choice }
-    ensures reduced { IfSome result.worth IsReduced }
-{
-    Row {
-        choice,
-        worth: None,
-    }
+    let worth = match worth {
+        Some(num) => Some(whole(num)),
+        None => None,
+    };
+    Row { choice, worth }
 }
 
 fn answer(alloc: Global, decision: usize, rows: &[Row]) -> Result<Answer, AllocError>
@@ -105,6 +95,31 @@ fn verdict(
     check(alloc, diagram, &report(alloc, first, second, plan, gain)?)
 }
 
+/// The verdict on the report with these rows of the reply and of the plan, each a choice and what it is worth, and this
+/// gain; none where the diagram may not be checked, or has no such choice.
+fn verdict_on(
+    alloc: Global,
+    [first, second, plan]: [(usize, Option<i128>); 3],
+    gain: i128,
+) -> Result<Option<Verdict>, AllocError> {
+    let diagram = reply_diagram(alloc)?;
+    let has_choices = first.0 < 2 && second.0 < 2 && plan.0 < 2;
+    if !has_choices || !can_check(&diagram) {
+        return Ok(None);
+    }
+    let first = row(first.0, first.1);
+    let second = row(second.0, second.1);
+    let plan = row(plan.0, plan.1);
+    Ok(Some(verdict(alloc, &diagram, first, second, plan, whole(gain))?))
+}
+
+#[test]
+fn every_pair_is_a_leaf(rt: HostRuntime) -> Result<(), Fail> {
+    let diagram = reply_diagram(rt.alloc())?;
+    assert_eq!(rt; leaves(&diagram), 4);
+    Ok(())
+}
+
 /// The verdict that the line fails for the cause.
 fn rejected(line: usize, cause: Cause) -> Verdict {
     Verdict::Rejected { line, cause }
@@ -114,21 +129,19 @@ fn rejected(line: usize, cause: Cause) -> Verdict {
 // worth 4 and 3 at its best, and the plan 4.
 #[test]
 fn the_first_line_that_fails_is_named(rt: HostRuntime) -> Result<(), Fail> {
-    let alloc = rt.alloc();
-    let diagram = reply_diagram(alloc)?;
-    assert_eq!(rt; leaves(&diagram), 4);
-    let ready = can_check(&diagram);
-    assert!(rt; ready);
-    let four = whole(4);
-    let right = verdict(alloc, &diagram, row(1, 4), row(0, 3), row(0, 4), four)?;
-    assert_eq!(rt; right, Verdict::Accepted);
-    let worth = verdict(alloc, &diagram, row(1, 5), row(0, 3), row(0, 4), four)?;
-    assert_eq!(rt; worth, rejected(4, Cause::Worth));
-    let choice = verdict(alloc, &diagram, row(1, 4), row(1, 2), row(0, 4), four)?;
-    assert_eq!(rt; choice, rejected(5, Cause::Choice));
-    let mark = verdict(alloc, &diagram, row(1, 4), row(0, 3), never(0), whole(5))?;
-    assert_eq!(rt; mark, rejected(7, Cause::Never));
-    let gain = verdict(alloc, &diagram, row(1, 4), row(0, 3), row(0, 4), whole(3))?;
-    assert_eq!(rt; gain, rejected(8, Cause::Gain));
+    let right = [(1, Some(4)), (0, Some(3)), (0, Some(4))];
+    let worth = [(1, Some(5)), (0, Some(3)), (0, Some(4))];
+    let choice = [(1, Some(4)), (1, Some(2)), (0, Some(4))];
+    let never = [(1, Some(4)), (0, Some(3)), (0, None)];
+    let reports = [
+        (right, 4, Verdict::Accepted),
+        (worth, 4, rejected(4, Cause::Worth)),
+        (choice, 4, rejected(5, Cause::Choice)),
+        (never, 5, rejected(7, Cause::Never)),
+        (right, 3, rejected(8, Cause::Gain)),
+    ];
+    for (rows, gain, expected) in reports {
+        assert_eq!(rt; verdict_on(rt.alloc(), rows, gain)?, Some(expected));
+    }
     Ok(())
 }

@@ -58,18 +58,40 @@ fn fraction(num: i128, den: u128) -> Ratio {
     Ratio { num, den }
 }
 
+/// Whether heads are worth a half.
+fn heads_pay(alloc: Global) -> Result<bool, GivenFault> {
+    let heads = ask(alloc, &coin(alloc)?, 0, 0)?;
+    Ok(heads.gains.as_slice() == [fraction(1, 2)].as_slice())
+}
+
+/// Whether tails cost five quarters, the coin as it is three eighths, and nothing is decided.
+fn tails_cost(alloc: Global) -> Result<bool, GivenFault> {
+    let tails = ask(alloc, &coin(alloc)?, 0, 1)?;
+    Ok(
+        tails.gains.as_slice() == [fraction(-5, 4)].as_slice()
+            && tails.solved.gains.as_slice() == [fraction(-3, 8)].as_slice()
+            && tails.solved.order.is_empty(),
+    )
+}
+
 // Each side alone is worth what it pays, and not the half of both.
 #[test]
 fn a_coin_is_worth_its_side(rt: HostRuntime) -> Result<(), Fail> {
     let alloc = rt.alloc();
-    let diagram = coin(alloc)?;
-    let heads = ask(alloc, &diagram, 0, 0)?;
-    assert_eq!(rt; heads.gains.as_slice(), [fraction(1, 2)].as_slice());
-    let tails = ask(alloc, &diagram, 0, 1)?;
-    assert_eq!(rt; tails.gains.as_slice(), [fraction(-5, 4)].as_slice());
-    assert_eq!(rt; tails.solved.gains.as_slice(), [fraction(-3, 8)].as_slice());
-    assert!(rt; tails.solved.order.is_empty());
+    assert!(rt; heads_pay(alloc)?);
+    assert!(rt; tails_cost(alloc)?);
     Ok(())
+}
+
+/// Whether nothing is worth anything in the one state that the node may have.
+fn is_worthless(alloc: Global) -> Result<bool, GivenFault> {
+    let sure = ask(alloc, &certain(alloc)?, 0, 0)?;
+    Ok(sure.gains.is_empty())
+}
+
+/// Why the node never has its other state.
+fn fault_of_never(alloc: Global) -> Result<Option<GivenFault>, AllocError> {
+    Ok(ask(alloc, &certain(alloc)?, 0, 1).err())
 }
 
 // There is no agent, so nothing is worth anything, but the first state is possible and the second
@@ -77,12 +99,25 @@ fn a_coin_is_worth_its_side(rt: HostRuntime) -> Result<(), Fail> {
 #[test]
 fn what_never_is_is_impossible(rt: HostRuntime) -> Result<(), Fail> {
     let alloc = rt.alloc();
-    let diagram = certain(alloc)?;
-    let sure = ask(alloc, &diagram, 0, 0)?;
-    assert!(rt; sure.gains.is_empty());
-    let never = ask(alloc, &diagram, 0, 1);
-    assert!(rt; matches!(never, Err(GivenFault::Impossible)));
+    assert!(rt; is_worthless(alloc)?);
+    assert!(rt; matches!(fault_of_never(alloc)?, Some(GivenFault::Impossible)));
     Ok(())
+}
+
+/// Whether the bet sees the coin, is worth 2 at its second side, and 5/2 in all.
+fn sees_the_coin(alloc: Global) -> Result<bool, GivenFault> {
+    let second = ask(alloc, &bet(alloc)?, 0, 1)?;
+    let sees = second.diagram.count() > 1 && second.diagram.parents(1) == [0].as_slice();
+    Ok(
+        sees && second.gains.as_slice() == [fraction(2, 1)].as_slice()
+            && second.solved.gains.as_slice() == [fraction(5, 2)].as_slice()
+            && second.solved.order.as_slice() == [1].as_slice(),
+    )
+}
+
+/// Why the bet can't see what repeats it.
+fn fault_of_below(alloc: Global) -> Result<Option<GivenFault>, AllocError> {
+    Ok(ask(alloc, &bet(alloc)?, 2, 0).err())
 }
 
 // The bet sees the coin: it takes 4 at its first side and 2 at its second, 5/2 in all. What
@@ -90,15 +125,7 @@ fn what_never_is_is_impossible(rt: HostRuntime) -> Result<(), Fail> {
 #[test]
 fn a_bet_that_sees_the_coin(rt: HostRuntime) -> Result<(), Fail> {
     let alloc = rt.alloc();
-    let diagram = bet(alloc)?;
-    let second = ask(alloc, &diagram, 0, 1)?;
-    assert_eq!(rt; second.gains.as_slice(), [fraction(2, 1)].as_slice());
-    assert_eq!(rt; second.solved.gains.as_slice(), [fraction(5, 2)].as_slice());
-    assert_eq!(rt; second.solved.order.as_slice(), [1].as_slice());
-    if second.diagram.count() > 1 {
-        assert_eq!(rt; second.diagram.parents(1), [0].as_slice());
-    }
-    let below = ask(alloc, &diagram, 2, 0);
-    assert!(rt; matches!(below, Err(GivenFault::BelowDecision)));
+    assert!(rt; sees_the_coin(alloc)?);
+    assert!(rt; matches!(fault_of_below(alloc)?, Some(GivenFault::BelowDecision)));
     Ok(())
 }

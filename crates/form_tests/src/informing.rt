@@ -5,7 +5,7 @@ ghost use Rattle.form_tests.specs.Informing.{guessing, seen_by};
 
 use info_value::{Found, InfoLine, info};
 use maid_model::{Diagram, Ratio};
-use rule_solver::solve;
+use rule_solver::{SolveFault, solve};
 use sample_diagrams::{chance, decision, sample_diagram, utility};
 use std::alloc::{AllocError, Global};
 use std::test::Fail;
@@ -39,26 +39,42 @@ fn worth(line: &InfoLine) -> Option<(i128, u128)> {
     }
 }
 
+/// Whether the line is of the arc from the node to the guess, and says whether that is there and what it is worth.
+fn says(line: &InfoLine, from: usize, (has, value): (bool, (i128, u128))) -> bool {
+    line.from == from && line.to == 3 && line.has == has && worth(line) == Some(value)
+}
+
+/// Whether the lines are those of the first three nodes, and say this of them.
+fn say(lines: &[InfoLine], expected: [(bool, (i128, u128)); 3]) -> bool {
+    match lines {
+        [first, second, third] => {
+            says(first, 0, expected[0])
+                && says(second, 1, expected[1])
+                && says(third, 2, expected[2])
+        }
+        _ => false,
+    }
+}
+
+/// Whether this is said of a guess that may be told of both coins.
+fn is_said(
+    alloc: Global,
+    told: bool,
+    expected: [(bool, (i128, u128)); 3],
+) -> Result<bool, SolveFault> {
+    let diagram = diagram(alloc, told)?;
+    let solved = solve(alloc, &diagram)?;
+    let lines = info(alloc, &diagram, &solved, 0)?;
+    Ok(say(&lines, expected))
+}
+
 // Told of both the guess is always right, and else half of the time. The second coin itself tells all there is to know.
 #[test]
 fn what_a_guess_needs(rt: HostRuntime) -> Result<(), Fail> {
     let alloc = rt.alloc();
-    let rows = [
-        (true, [(true, (1, 2)), (false, (0, 1)), (true, (1, 2))]),
-        (false, [(true, (0, 0)), (false, (1, 2)), (false, (1, 2))]),
-    ];
-    for (told, expected) in rows {
-        let diagram = diagram(alloc, told)?;
-        let solved = solve(alloc, &diagram)?;
-        let lines = info(alloc, &diagram, &solved, 0)?;
-        assert_eq!(rt; lines.len(), 3);
-        for (from, (has, value)) in expected.iter().enumerate() {
-            let line = &lines[from];
-            assert_eq!(rt; line.from, from);
-            assert_eq!(rt; line.to, 3);
-            assert_eq!(rt; line.has, *has);
-            assert_eq!(rt; worth(line), Some(*value));
-        }
-    }
+    let told = [(true, (1, 2)), (false, (0, 1)), (true, (1, 2))];
+    assert!(rt; is_said(alloc, true, told)?);
+    let untold = [(true, (0, 0)), (false, (1, 2)), (false, (1, 2))];
+    assert!(rt; is_said(alloc, false, untold)?);
     Ok(())
 }

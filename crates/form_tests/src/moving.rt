@@ -4,7 +4,7 @@ ghost use Rattle.std.specs.Prelude.{◌≡◌, [], IfOk};
 ghost use Rattle.form_tests.specs.Moving.{bet, oil, steer, signal_weights};
 
 use maid_model::{Diagram, Ratio};
-use rule_solver::solve;
+use rule_solver::{SolveFault, solve};
 use sample_diagrams::{chance, decision, sample_diagram, utility};
 use std::alloc::{AllocError, Global};
 use std::test::Fail;
@@ -79,49 +79,61 @@ fn interval(now: (i128, u128), low: (i128, u128), high: (i128, u128)) -> Interva
     }
 }
 
+/// How far the probability of a dry well may move.
+fn dry(alloc: Global) -> Result<Result<Interval, SpanFault>, SolveFault> {
+    let diagram = oil(alloc)?;
+    let solved = solve(alloc, &diagram)?;
+    Ok(span(alloc, &diagram, &solved, 1, 0, 0))
+}
+
 // Below 27/59 not testing is better, since testing is worth 83 - 121q and not testing 110 - 180q;
 // above 11/18 drilling without a test is worth less than nought.
 #[test]
 fn a_well_may_be_dry(rt: HostRuntime) -> Result<(), Fail> {
-    let alloc = rt.alloc();
-    let diagram = oil(alloc)?;
-    let solved = solve(alloc, &diagram)?;
-    let dry = span(alloc, &diagram, &solved, 1, 0, 0)?;
-    assert_eq!(rt; dry, interval((1, 2), (27, 59), (11, 18)));
+    let expected = interval((1, 2), (27, 59), (11, 18));
+    assert_eq!(rt; dry(rt.alloc())?, Ok(expected));
     Ok(())
 }
 
+/// How far the signal's two probabilities may move.
+fn signals(alloc: Global, even: bool) -> Result<[Result<Interval, SpanFault>; 2], SolveFault> {
+    let diagram = steer(alloc, even)?;
+    let solved = solve(alloc, &diagram)?;
+    let first = span(alloc, &diagram, &solved, 0, 0, 0);
+    let second = span(alloc, &diagram, &solved, 0, 1, 0);
+    Ok([first, second])
+}
+
 // Where the decision sees the signal its choices hold at any probability, also where a row is never
-// reached.
+// reached. A first state without weight has none with which to share.
 #[test]
 fn a_signal_may_move_freely(rt: HostRuntime) -> Result<(), Fail> {
     let alloc = rt.alloc();
-    for (even, now) in [(true, (1, 2)), (false, (0, 1))] {
-        let diagram = steer(alloc, even)?;
-        let solved = solve(alloc, &diagram)?;
-        let first = span(alloc, &diagram, &solved, 0, 0, 0)?;
-        assert_eq!(rt; first, interval(now, (0, 1), (1, 1)));
-        let second = span(alloc, &diagram, &solved, 0, 1, 0);
-        if even {
-            assert_eq!(rt; second, Ok(interval((1, 2), (0, 1), (1, 1))));
-        } else {
-            // The first state has no weight with which to share.
-            assert_eq!(rt; second, Err(SpanFault::NoOthers));
-        }
-    }
+    let freely = interval((1, 2), (0, 1), (1, 1));
+    assert_eq!(rt; signals(alloc, true)?, [Ok(freely), Ok(freely)]);
+    let from_nought = interval((0, 1), (0, 1), (1, 1));
+    assert_eq!(rt;
+        signals(alloc, false)?,
+        [Ok(from_nought), Err(SpanFault::NoOthers)]
+    );
     Ok(())
+}
+
+/// How far the first probability of the bet's signal and the second of its echo may move.
+fn bets(alloc: Global) -> Result<[Result<Interval, SpanFault>; 2], SolveFault> {
+    let diagram = bet(alloc)?;
+    let solved = solve(alloc, &diagram)?;
+    let first = span(alloc, &diagram, &solved, 0, 0, 0);
+    let echo = span(alloc, &diagram, &solved, 3, 1, 1);
+    Ok([first, echo])
 }
 
 // The sure state is best only where the two others are worth the same. What nobody looks at may be
 // anything.
 #[test]
 fn a_bet_may_not_move(rt: HostRuntime) -> Result<(), Fail> {
-    let alloc = rt.alloc();
-    let diagram = bet(alloc)?;
-    let solved = solve(alloc, &diagram)?;
-    let first = span(alloc, &diagram, &solved, 0, 0, 0)?;
-    assert_eq!(rt; first, interval((1, 2), (1, 2), (1, 2)));
-    let echo = span(alloc, &diagram, &solved, 3, 1, 1)?;
-    assert_eq!(rt; echo, interval((1, 3), (0, 1), (1, 1)));
+    let first = interval((1, 2), (1, 2), (1, 2));
+    let echo = interval((1, 3), (0, 1), (1, 1));
+    assert_eq!(rt; bets(rt.alloc())?, [Ok(first), Ok(echo)]);
     Ok(())
 }

@@ -5,7 +5,7 @@ ghost use Rattle.form_tests.specs.Planning.{sighted_diagram, square_diagram, sta
 
 use maid_model::Diagram;
 use sample_diagrams::{chance, decision, sample_diagram, utility};
-use size_precheck::{Size, make_plan, measure};
+use size_precheck::{Plan, Size, make_plan, measure};
 use std::alloc::{AllocError, Global};
 use std::test::Fail;
 
@@ -62,76 +62,81 @@ fn star(alloc: Global) -> Result<Diagram, AllocError>
     sample_diagram(alloc, nodes.as_slice(), 1, 0)
 }
 
+/// Whether the plan keeps these nodes, eliminates those in this order, and is of this size.
+fn is_plan(plan: &Plan, keep: &[usize], steps: &[usize], size: Size) -> bool {
+    plan.keep() == keep && plan.steps() == steps && plan.size() == size
+}
+
+/// Whether the worth of the square's utility is planned as counted.
+fn plans_worth(alloc: Global) -> Result<bool, AllocError> {
+    let plan = make_plan(alloc, &square(alloc)?, &[], None, Some(4))?;
+    let size = Size {
+        cells: 30,
+        work: 51,
+    };
+    let of_worth = plan.without() == None && plan.utility() == Some(4);
+    Ok(of_worth && is_plan(&plan, &[], &[0, 1, 2, 3], size))
+}
+
+/// Whether the plan that keeps the paying corners is as counted.
+fn plans_corners(alloc: Global) -> Result<bool, AllocError> {
+    let plan = make_plan(alloc, &square(alloc)?, &[3, 2], None, None)?;
+    let size = Size {
+        cells: 26,
+        work: 44,
+    };
+    Ok(is_plan(&plan, &[3, 2], &[0, 1], size))
+}
+
 // The first joined sets have eight cells each. G goes first, with three tables, and makes H and B; then H, with two, makes
 // A and B; A, whose set has four cells now, makes B, and B the last cell.
 #[test]
 fn plans_of_a_square(rt: HostRuntime) -> Result<(), Fail> {
     let alloc = rt.alloc();
-    let diagram = square(alloc)?;
-    let worth = make_plan(alloc, &diagram, &[], None, Some(4))?;
-    assert_eq!(rt; worth.keep(), [].as_slice());
-    assert_eq!(rt; worth.without(), None);
-    assert_eq!(rt; worth.utility(), Some(4));
-    assert_eq!(rt; worth.steps(), [0, 1, 2, 3].as_slice());
-    assert_eq!(rt;
-        worth.size(),
-        Size {
-            cells: 30,
-            work: 51
-        }
-    );
-    let kept = make_plan(alloc, &diagram, &[3, 2], None, None)?;
-    assert_eq!(rt; kept.keep(), [3, 2].as_slice());
-    assert_eq!(rt; kept.steps(), [0, 1].as_slice());
-    assert_eq!(rt;
-        kept.size(),
-        Size {
-            cells: 26,
-            work: 44
-        }
-    );
+    assert!(rt; plans_worth(alloc)?);
+    assert!(rt; plans_corners(alloc)?);
     Ok(())
+}
+
+/// The sizes of the runs of the square that pays twice, and of the decision that sees.
+fn sizes(alloc: Global) -> Result<[Size; 2], AllocError> {
+    let paid = measure(alloc, &twice_paid(alloc)?, &[])?;
+    let sighted = measure(alloc, &sighted(alloc)?, &[1])?;
+    Ok([paid, sighted])
 }
 
 // A second utility like the first has the same plan again. In the other diagram the row's plan has 4 cells and work 2, that
 // of the states 10 and 8, and that of the worth 14 and 15.
 #[test]
 fn sizes_of_runs(rt: HostRuntime) -> Result<(), Fail> {
-    let alloc = rt.alloc();
-    let diagram = twice_paid(alloc)?;
-    assert_eq!(rt;
-        measure(alloc, &diagram, &[])?,
-        Size {
-            cells: 30,
-            work: 102
-        }
-    );
-    let diagram = sighted(alloc)?;
-    assert_eq!(rt;
-        measure(alloc, &diagram, &[1])?,
-        Size {
-            cells: 14,
-            work: 25
-        }
-    );
+    let paid = Size {
+        cells: 30,
+        work: 102,
+    };
+    let sighted = Size {
+        cells: 14,
+        work: 25,
+    };
+    assert_eq!(rt; sizes(rt.alloc())?, [paid, sighted]);
     Ok(())
+}
+
+/// The plan of the star that keeps all but the node in the middle.
+fn plan_of_points(alloc: Global) -> Result<Plan, AllocError> {
+    let keep = [1, 2, 3, 4, 5, 6, 7, 8, 9, 10, 11, 12, 13, 14, 15];
+    make_plan(alloc, &star(alloc)?, &keep, None, None)
 }
 
 // The joined set of the node in the middle has 2^64 cells, and what it makes 2^60.
 #[test]
 fn counts_stop(rt: HostRuntime) -> Result<(), Fail> {
-    let alloc = rt.alloc();
-    let diagram = star(alloc)?;
-    let keep = [1, 2, 3, 4, 5, 6, 7, 8, 9, 10, 11, 12, 13, 14, 15];
-    let plan = make_plan(alloc, &diagram, &keep, None, None)?;
+    let plan = plan_of_points(rt.alloc())?;
     let end = 1_000_000_000_000_000_000;
+    let size = Size {
+        cells: end,
+        work: end,
+    };
     assert_eq!(rt; plan.steps(), [0].as_slice());
-    assert_eq!(rt;
-        plan.size(),
-        Size {
-            cells: end,
-            work: end
-        }
-    );
+    assert_eq!(rt; plan.size(), size);
     Ok(())
 }

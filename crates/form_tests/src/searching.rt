@@ -3,8 +3,8 @@
 ghost use Rattle.std.specs.Prelude.{◌≡◌, IfOk};
 ghost use Rattle.form_tests.specs.Searching.{blind, coin, first_pays, prize, second_pays, seen_in, sight, two_movers};
 
-use maid_model::{Diagram, GREATEST_NUMBER, Ratio};
-use pure_search::{Pure, PureFault, first_pure};
+use maid_model::{Answer, Diagram, GREATEST_NUMBER, Ratio};
+use pure_search::{PureFault, first_pure};
 use sample_diagrams::{chance, decision, sample_diagram, utility};
 use std::alloc::{AllocError, Global};
 use std::test::Fail;
@@ -91,9 +91,9 @@ fn coin(alloc: Global, heavy: bool) -> Result<Diagram, AllocError>
 }
 
 /// All choices, decision by decision and row by row.
-fn choices(alloc: Global, found: &Pure) -> Result<Vec<usize>, AllocError> {
+fn choices(alloc: Global, answers: &[Answer]) -> Result<Vec<usize>, AllocError> {
     let mut list = Vec::new(alloc);
-    for answer in &found.answers {
+    for answer in answers {
         for row in &answer.rows {
             list.push(row.choice)?;
         }
@@ -105,18 +105,46 @@ fn whole(num: i128) -> Ratio {
     Ratio { num, den: 1 }
 }
 
-// The follower's threat to match the leader keeps the leader at a; at the meeting the first place is worse for both.
+/// Whether the first equilibrium makes these choices, decision by decision and row by row, and gains this.
+fn is_found(
+    alloc: Global,
+    diagram: &Diagram,
+    expected: &[usize],
+    gains: &[Ratio],
+) -> Result<bool, PureFault> {
+    let found = first_pure(alloc, diagram)?;
+    let chosen = choices(alloc, &found.answers)?;
+    Ok(chosen.as_slice() == expected && found.gains.as_slice() == gains)
+}
+
+/// Why no equilibrium is found, if none is.
+fn fault(alloc: Global, diagram: &Diagram) -> Option<PureFault> {
+    first_pure(alloc, diagram).err()
+}
+
 #[test]
-fn two_agents(rt: HostRuntime) -> Result<(), Fail> {
+fn pennies_have_no_equilibrium(rt: HostRuntime) -> Result<(), Fail> {
     let alloc = rt.alloc();
-    let none = first_pure(alloc, &two_movers(alloc, 0)?);
-    assert_eq!(rt; none.err(), Some(PureFault::NoPure { profiles: 4 }));
-    let led = first_pure(alloc, &two_movers(alloc, 1)?)?;
-    assert_eq!(rt; choices(alloc, &led)?.as_slice(), [0, 0, 1].as_slice());
-    assert_eq!(rt; led.gains.as_slice(), [whole(2), whole(1)].as_slice());
-    let met = first_pure(alloc, &two_movers(alloc, 2)?)?;
-    assert_eq!(rt; choices(alloc, &met)?.as_slice(), [0, 0].as_slice());
-    assert_eq!(rt; met.gains.as_slice(), [whole(1), whole(2)].as_slice());
+    let none = fault(alloc, &two_movers(alloc, 0)?);
+    assert_eq!(rt; none, Some(PureFault::NoPure { profiles: 4 }));
+    Ok(())
+}
+
+// The follower's threat to match the leader keeps the leader at a.
+#[test]
+fn a_threat_keeps_the_leader(rt: HostRuntime) -> Result<(), Fail> {
+    let alloc = rt.alloc();
+    let led = [whole(2), whole(1)];
+    assert!(rt; is_found(alloc, &two_movers(alloc, 1)?, &[0, 0, 1], &led)?);
+    Ok(())
+}
+
+// At the meeting the first place is worse for both.
+#[test]
+fn the_first_meeting_is_found(rt: HostRuntime) -> Result<(), Fail> {
+    let alloc = rt.alloc();
+    let met = [whole(1), whole(2)];
+    assert!(rt; is_found(alloc, &two_movers(alloc, 2)?, &[0, 0], &met)?);
     Ok(())
 }
 
@@ -124,34 +152,38 @@ fn two_agents(rt: HostRuntime) -> Result<(), Fail> {
 #[test]
 fn one_agent(rt: HostRuntime) -> Result<(), Fail> {
     let alloc = rt.alloc();
-    let found = first_pure(alloc, &blind(alloc)?)?;
-    assert_eq!(rt; choices(alloc, &found)?.as_slice(), [1, 1].as_slice());
-    assert_eq!(rt; found.gains.as_slice(), [whole(2)].as_slice());
+    assert!(rt; is_found(alloc, &blind(alloc)?, &[1, 1], &[whole(2)])?);
     Ok(())
+}
+
+/// Whether nothing is answered at the coin, and it is worth its half.
+fn is_half(alloc: Global) -> Result<bool, PureFault> {
+    let found = first_pure(alloc, &coin(alloc, false)?)?;
+    let half = Ratio { num: 1, den: 2 };
+    Ok(found.answers.is_empty() && found.gains.as_slice() == [half].as_slice())
 }
 
 #[test]
 fn nobody_decides(rt: HostRuntime) -> Result<(), Fail> {
-    let alloc = rt.alloc();
-    let found = first_pure(alloc, &coin(alloc, false)?)?;
-    assert_eq!(rt; found.answers.len(), 0);
-    assert_eq!(rt;
-        found.gains.as_slice(),
-        [Ratio { num: 1, den: 2 }].as_slice()
-    );
+    assert!(rt; is_half(rt.alloc())?);
     Ok(())
 }
 
 #[test]
-fn refusals(rt: HostRuntime) -> Result<(), Fail> {
+fn a_sight_of_seventeen_states_is_too_large(rt: HostRuntime) -> Result<(), Fail> {
     let alloc = rt.alloc();
-    let large = first_pure(alloc, &sight(alloc)?);
-    let fault = PureFault::TooLarge {
+    let large = PureFault::TooLarge {
         profiles: 131_072,
         leaves: 34,
     };
-    assert_eq!(rt; large.err(), Some(fault));
-    let heavy = first_pure(alloc, &coin(alloc, true)?);
-    assert_eq!(rt; heavy.err(), Some(PureFault::WeightBound { node: None }));
+    assert_eq!(rt; fault(alloc, &sight(alloc)?), Some(large));
+    Ok(())
+}
+
+#[test]
+fn a_heavy_coin_fails_the_bound(rt: HostRuntime) -> Result<(), Fail> {
+    let alloc = rt.alloc();
+    let heavy = PureFault::WeightBound { node: None };
+    assert_eq!(rt; fault(alloc, &coin(alloc, true)?), Some(heavy));
     Ok(())
 }

@@ -6,9 +6,9 @@ ghost use Rattle.maid_model.specs.Scopes.{KeepsScopedBounds};
 ghost use Rattle.rule_solver.specs.Rooms.{HasRoomForRun};
 
 use crate::samples::reply_diagram;
-use maid_model::{Diagram, MOST_PLAN_CELLS, Profile, Ratio, Row};
+use maid_model::{Answer, Diagram, MOST_PLAN_CELLS, Profile, Ratio, Row};
 use relevance_graph::find_relevance;
-use rule_solver::{measured_plans_have_room, row_sums, solve};
+use rule_solver::{SolveFault, measured_plans_have_room, row_sums, solve};
 use size_precheck::measure;
 use std::alloc::{AllocError, Global};
 use std::test::Fail;
@@ -22,23 +22,29 @@ fn row(choice: usize, worth: i128) -> Row {
     }
 }
 
+/// Whether the reply is answered first, with these rows, and then the plan.
+fn are_answered(answers: &[Answer], replies: &[Row], plan: &[Row]) -> bool {
+    match answers {
+        [first, second] => first.rows.as_slice() == replies && second.rows.as_slice() == plan,
+        _ => false,
+    }
+}
+
+/// Whether the reply and the plan are solved in this order, with the best rows, and gain 4.
+fn is_solved(alloc: Global) -> Result<bool, SolveFault> {
+    let solved = solve(alloc, &reply_diagram(alloc)?)?;
+    let gain = Ratio { num: 4, den: 1 };
+    Ok(
+        solved.order.as_slice() == [1, 0].as_slice()
+            && are_answered(&solved.answers, &[row(1, 4), row(0, 3)], &[row(0, 4)])
+            && solved.gains.as_slice() == [gain].as_slice(),
+    )
+}
+
 // The reply is best for each plan, and the plan against these replies: 4 for the first and 3 for the second.
 #[test]
 fn a_plan_relies_on_the_reply(rt: HostRuntime) -> Result<(), Fail> {
-    let alloc = rt.alloc();
-    let diagram = reply_diagram(alloc)?;
-    let solved = solve(alloc, &diagram)?;
-    assert_eq!(rt; solved.order.as_slice(), [1, 0].as_slice());
-    assert_eq!(rt; solved.answers.len(), 2);
-    assert_eq!(rt;
-        solved.answers[0].rows.as_slice(),
-        [row(1, 4), row(0, 3)].as_slice()
-    );
-    assert_eq!(rt; solved.answers[1].rows.as_slice(), [row(0, 4)].as_slice());
-    assert_eq!(rt;
-        solved.gains.as_slice(),
-        [Ratio { num: 4, den: 1 }].as_slice()
-    );
+    assert!(rt; is_solved(rt.alloc())?);
     Ok(())
 }
 
@@ -62,16 +68,23 @@ fn has_room(alloc: Global, diagram: &Diagram) -> Result<bool, AllocError>
     }
 }
 
+/// Whether the diagram has room, and the reply's sums against even rules are what the pairs pay.
+fn is_summed(alloc: Global) -> Result<bool, AllocError> {
+    let diagram = reply_diagram(alloc)?;
+    if !has_room(alloc, &diagram)? {
+        return Ok(false);
+    }
+    let profile = Profile::uniform(alloc, &diagram)?;
+    let sums = row_sums(alloc, &diagram, &profile, 1)?;
+    Ok(
+        sums.gains.as_slice() == [1, 4, 3, 2].as_slice()
+            && sums.masses.as_slice() == [1, 1].as_slice(),
+    )
+}
+
 // With an even choice of plans the reply gains in each row what the pair pays, and each row has the mass of one plan.
 #[test]
 fn a_reply_gains_what_the_pairs_pay(rt: HostRuntime) -> Result<(), Fail> {
-    let alloc = rt.alloc();
-    let diagram = reply_diagram(alloc)?;
-    let room = has_room(alloc, &diagram)?;
-    assert!(rt; room);
-    let profile = Profile::uniform(alloc, &diagram)?;
-    let sums = row_sums(alloc, &diagram, &profile, 1)?;
-    assert_eq!(rt; sums.gains.as_slice(), [1, 4, 3, 2].as_slice());
-    assert_eq!(rt; sums.masses.as_slice(), [1, 1].as_slice());
+    assert!(rt; is_summed(rt.alloc())?);
     Ok(())
 }

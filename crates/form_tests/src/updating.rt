@@ -3,7 +3,7 @@
 ghost use Rattle.std.specs.Prelude.{◌≡◌, IfOk};
 ghost use Rattle.form_tests.specs.Updating.{guessing, meeting, nothing, paid, pennies};
 
-use maid_model::{Diagram, Ratio, Row};
+use maid_model::{Answer, Diagram, Ratio, Row};
 use policy_update::{UpdateFault, Updated, update};
 use sample_diagrams::{chance, decision, sample_diagram, utility};
 use std::alloc::{AllocError, Global};
@@ -73,17 +73,45 @@ fn row(choice: usize) -> Row {
     }
 }
 
-/// Whether the answer at this place is of this decision and has these rows.
-fn is_answered(updated: &Updated, place: usize, decision: usize, rows: &[Row]) -> bool {
-    match updated.answers.get(place) {
-        Some(answer) => answer.decision == decision && answer.rows.as_slice() == rows,
-        None => false,
+/// Whether the answers are of these decisions, and have these rows.
+fn are_answered(answers: &[Answer], expected: &[(usize, &[Row])]) -> bool {
+    let mut same = answers.len() == expected.len();
+    for (answer, (decision, rows)) in answers.iter().zip(expected) {
+        same = same && answer.decision == *decision && answer.rows.as_slice() == *rows;
     }
+    same
 }
 
-/// Whether the agents' gains are these.
-fn has_gains(updated: &Updated, gains: &[Ratio]) -> bool {
-    updated.gains.as_slice() == gains
+/// Whether so many rounds raised, and these are the answers and the gains.
+fn is_updated(
+    updated: &Updated,
+    rounds: u64,
+    answers: &[(usize, &[Row])],
+    gains: &[Ratio],
+) -> bool {
+    updated.rounds == rounds
+        && are_answered(&updated.answers, answers)
+        && updated.gains.as_slice() == gains
+}
+
+// Where neither decision gains alone, updating stays at the first states, though the second ones are worth 2.
+#[test]
+fn a_local_optimum(rt: HostRuntime) -> Result<(), Fail> {
+    let alloc = rt.alloc();
+    let updated = update(alloc, &meeting(alloc, false)?, 10)?;
+    let gains = [Ratio { num: 1, den: 1 }, Ratio { num: 1, den: 2 }];
+    assert!(rt; is_updated(&updated, 0, &[(0, &[row(0)]), (1, &[row(0)])], &gains));
+    Ok(())
+}
+
+// The second decision moves in the first round, and the first one in the second.
+#[test]
+fn two_rounds(rt: HostRuntime) -> Result<(), Fail> {
+    let alloc = rt.alloc();
+    let updated = update(alloc, &meeting(alloc, true)?, 3)?;
+    let gains = [Ratio { num: 2, den: 1 }, Ratio { num: 7, den: 10 }];
+    assert!(rt; is_updated(&updated, 2, &[(0, &[row(1)]), (1, &[row(1)])], &gains));
+    Ok(())
 }
 
 /// Whether the allowed rounds were spent, and the gain had come to this.
@@ -94,36 +122,6 @@ fn is_spent_at(updated: Result<Updated, UpdateFault>, allowed: u64, worth: i128)
         }
         _ => false,
     }
-}
-
-// Where neither decision gains alone, updating stays at the first states, though the second ones are worth 2.
-#[test]
-fn a_local_optimum(rt: HostRuntime) -> Result<(), Fail> {
-    let alloc = rt.alloc();
-    let diagram = meeting(alloc, false)?;
-    let updated = update(alloc, &diagram, 10)?;
-    let gains = [Ratio { num: 1, den: 1 }, Ratio { num: 1, den: 2 }];
-    assert!(rt; updated.rounds == 0);
-    assert!(rt; updated.answers.len() == 2);
-    assert!(rt; is_answered(&updated, 0, 0, &[row(0)]));
-    assert!(rt; is_answered(&updated, 1, 1, &[row(0)]));
-    assert!(rt; has_gains(&updated, &gains));
-    Ok(())
-}
-
-// The second decision moves in the first round, and the first one in the second.
-#[test]
-fn two_rounds(rt: HostRuntime) -> Result<(), Fail> {
-    let alloc = rt.alloc();
-    let diagram = meeting(alloc, true)?;
-    let updated = update(alloc, &diagram, 3)?;
-    let gains = [Ratio { num: 2, den: 1 }, Ratio { num: 7, den: 10 }];
-    assert!(rt; updated.rounds == 2);
-    assert!(rt; updated.answers.len() == 2);
-    assert!(rt; is_answered(&updated, 0, 0, &[row(1)]));
-    assert!(rt; is_answered(&updated, 1, 1, &[row(1)]));
-    assert!(rt; has_gains(&updated, &gains));
-    Ok(())
 }
 
 // After one round the pair is worth 1, and after two 2; that a third would not raise does not matter.
@@ -140,12 +138,9 @@ fn rounds_are_spent(rt: HostRuntime) -> Result<(), Fail> {
 #[test]
 fn rows_take_the_coins_side(rt: HostRuntime) -> Result<(), Fail> {
     let alloc = rt.alloc();
-    let diagram = guessing(alloc)?;
-    let updated = update(alloc, &diagram, 10)?;
-    assert!(rt; updated.rounds == 1);
-    assert!(rt; updated.answers.len() == 1);
-    assert!(rt; is_answered(&updated, 0, 1, &[row(0), row(1)]));
-    assert!(rt; has_gains(&updated, &[Ratio { num: 1, den: 1 }]));
+    let updated = update(alloc, &guessing(alloc)?, 10)?;
+    let gains = [Ratio { num: 1, den: 1 }];
+    assert!(rt; is_updated(&updated, 1, &[(1, &[row(0), row(1)])], &gains));
     Ok(())
 }
 
@@ -153,20 +148,19 @@ fn rows_take_the_coins_side(rt: HostRuntime) -> Result<(), Fail> {
 #[test]
 fn nothing_is_decided(rt: HostRuntime) -> Result<(), Fail> {
     let alloc = rt.alloc();
-    let diagram = nothing(alloc)?;
-    let updated = update(alloc, &diagram, 1)?;
-    assert!(rt; updated.rounds == 0);
-    assert!(rt; updated.answers.is_empty());
-    assert!(rt; has_gains(&updated, &[Ratio { num: 0, den: 1 }]));
+    let updated = update(alloc, &nothing(alloc)?, 1)?;
+    assert!(rt; is_updated(&updated, 0, &[], &[Ratio { num: 0, den: 1 }]));
     Ok(())
+}
+
+/// Why the game is not updated, if it isn't.
+fn fault(alloc: Global) -> Result<Option<UpdateFault>, AllocError> {
+    Ok(update(alloc, &pennies(alloc)?, 10).err())
 }
 
 // Two agents are one too many.
 #[test]
 fn two_agents_are_refused(rt: HostRuntime) -> Result<(), Fail> {
-    let alloc = rt.alloc();
-    let diagram = pennies(alloc)?;
-    let updated = update(alloc, &diagram, 10);
-    assert!(rt; matches!(updated, Err(UpdateFault::NotOneAgent)));
+    assert!(rt; matches!(fault(rt.alloc())?, Some(UpdateFault::NotOneAgent)));
     Ok(())
 }

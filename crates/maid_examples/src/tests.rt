@@ -3,36 +3,31 @@
 ghost use Rattle.maid_model.specs.Profiles.{HasRule};
 
 use crate::trials::{
-    coins, copied, copied_plan, copied_uniform, joined, joined_little, joined_much, joined_uniform,
-    parted, parted_little, parted_much, parted_uniform, sight, sight_plan, sight_uniform, team,
-    team_plan, team_uniform, threatened, trace, trip, trip_plan, trip_uniform,
+    coins, copied, copied_plan_has, copied_uniform_has, joined, joined_little_has, joined_much_has,
+    joined_uniform_has, parted, parted_little_has, parted_much_has, parted_uniform_has, sight,
+    sight_plan_has, sight_uniform_has, team, team_plan_has, team_uniform_has, threatened_has,
+    trace, trip, trip_plan_has, trip_uniform_has,
 };
 use maid_model::{Diagram, Profile, World};
 use relevance_graph::find_relevance;
 use std::alloc::{AllocError, Global};
 use std::test::Fail;
 
-/// Whether the decision relies on these.
-fn relies(
+/// Whether each of these decisions relies on those beside it, and this is the order of solving, or else the relevance
+/// cycle.
+fn is_found(
     alloc: Global,
-    diagram: &Diagram,
-    decision: usize,
-    on: &[usize],
+    diagram: Diagram,
+    reliance: &[(usize, &[usize])],
+    order: Result<&[usize], &[usize]>,
 ) -> Result<bool, AllocError> {
-    let seen = find_relevance(alloc, diagram)?;
-    Ok(decision < diagram.count() && seen.relied_on(decision) == on)
-}
-
-/// Whether this is the order of solving.
-fn is_order(alloc: Global, diagram: &Diagram, decisions: &[usize]) -> Result<bool, AllocError> {
-    let seen = find_relevance(alloc, diagram)?;
-    Ok(seen.order().is_ok_and(|order| order == decisions))
-}
-
-/// Whether there is no order of solving, and this is the relevance cycle.
-fn is_cycle(alloc: Global, diagram: &Diagram, decisions: &[usize]) -> Result<bool, AllocError> {
-    let seen = find_relevance(alloc, diagram)?;
-    Ok(seen.order().is_err_and(|cycle| cycle == decisions))
+    let found = find_relevance(alloc, &diagram)?;
+    for (decision, on) in reliance {
+        if *decision >= diagram.count() || found.relied_on(*decision) != *on {
+            return Ok(false);
+        }
+    }
+    Ok(found.order() == order)
 }
 
 /// Whether the diagram's worlds are these, in their order.
@@ -55,176 +50,114 @@ fn has_weights(profile: &Profile, decision: usize, weights: &[u128]) -> bool
     profile.rule(decision).weights.as_slice() == weights
 }
 
-// In sight of the leader, uniform rules: leader 5 - 1 + 3 + 0, follower -2 + 1 + 5 + 0.
 #[test]
 fn sums_in_sight(rt: HostRuntime) -> Result<(), Fail> {
     let alloc = rt.alloc();
-    let trial = sight_uniform(alloc)?;
-    assert!(rt; trial.has(alloc, &[7, 4], 1, &[-2, 1, 5, 0], &[1, 1])?);
+    // In sight of the leader, uniform rules: leader 5 - 1 + 3 + 0, follower -2 + 1 + 5 + 0.
+    assert!(rt;
+        sight_uniform_has(
+            alloc,
+            &[7, 4],
+            &[(1, &[-2, 1, 5, 0], &[1, 1]), (0, &[4, 3], &[2])]
+        )?
+    );
+
+    // The leader asks little, and the follower takes where little is asked: 3 and 5.
+    assert!(rt;
+        sight_plan_has(
+            alloc,
+            &[3, 5],
+            &[(1, &[0, 0, 5, 0], &[0, 1]), (0, &[-1, 3], &[1])]
+        )?
+    );
     Ok(())
 }
 
-// And what the leader's choices come to in it.
-#[test]
-fn sums_in_sight_for_the_leader(rt: HostRuntime) -> Result<(), Fail> {
-    let alloc = rt.alloc();
-    let trial = sight_uniform(alloc)?;
-    assert!(rt; trial.has_sums(alloc, 0, &[4, 3], &[2])?);
-    Ok(())
-}
-
-// The leader asks little, and the follower takes where little is asked: 3 and 5.
-#[test]
-fn plan_of_sight(rt: HostRuntime) -> Result<(), Fail> {
-    let alloc = rt.alloc();
-    let trial = sight_plan(alloc)?;
-    assert!(rt; trial.has(alloc, &[3, 5], 1, &[0, 0, 5, 0], &[0, 1])?);
-    Ok(())
-}
-
-// And what the leader's choices come to in it.
-#[test]
-fn plan_of_sight_for_the_leader(rt: HostRuntime) -> Result<(), Fail> {
-    let alloc = rt.alloc();
-    let trial = sight_plan(alloc)?;
-    assert!(rt; trial.has_sums(alloc, 0, &[-1, 3], &[1])?);
-    Ok(())
-}
-
-// The follower sees a copy of the choice in its place: the sums are those of `sums_in_sight`.
 #[test]
 fn sums_by_copy(rt: HostRuntime) -> Result<(), Fail> {
     let alloc = rt.alloc();
-    let trial = copied_uniform(alloc)?;
-    assert!(rt; trial.has(alloc, &[7, 4], 2, &[-2, 1, 5, 0], &[1, 1])?);
+    // The follower sees a copy of the choice in its place: the sums are those of `sums_in_sight`.
+    assert!(rt;
+        copied_uniform_has(
+            alloc,
+            &[7, 4],
+            &[(2, &[-2, 1, 5, 0], &[1, 1]), (0, &[4, 3], &[2])]
+        )?
+    );
+
+    // The plan of `sums_in_sight`, by the copy.
+    assert!(rt; copied_plan_has(alloc, &[3, 5], &[(0, &[-1, 3], &[1])])?);
     Ok(())
 }
 
-// And what the leader's choices come to in it.
-#[test]
-fn sums_by_copy_for_the_leader(rt: HostRuntime) -> Result<(), Fail> {
-    let alloc = rt.alloc();
-    let trial = copied_uniform(alloc)?;
-    assert!(rt; trial.has_sums(alloc, 0, &[4, 3], &[2])?);
-    Ok(())
-}
-
-// The plan of `plan_of_sight`, by the copy.
-#[test]
-fn plan_of_copy(rt: HostRuntime) -> Result<(), Fail> {
-    let alloc = rt.alloc();
-    let trial = copied_plan(alloc)?;
-    assert!(rt; trial.has(alloc, &[3, 5], 0, &[-1, 3], &[1])?);
-    Ok(())
-}
-
-// The follower sees nothing and is paid by the copy: one row, summed over what the leader asks.
 #[test]
 fn sums_through_two_states(rt: HostRuntime) -> Result<(), Fail> {
     let alloc = rt.alloc();
-    let trial = joined_uniform(alloc)?;
-    assert!(rt; trial.has(alloc, &[7, 4], 2, &[3, 1], &[2])?);
+    // The follower sees nothing and is paid by the copy: one row, summed over what the leader asks.
+    assert!(rt; joined_uniform_has(alloc, &[7, 4], &[(2, &[3, 1], &[2])])?);
+
+    // Against a leader who asks much the follower leaves.
+    assert!(rt; joined_much_has(alloc, &[], &[(2, &[-2, 1], &[1])])?);
+
+    // Against a leader who asks little the follower takes.
+    assert!(rt; joined_little_has(alloc, &[], &[(2, &[5, 0], &[1])])?);
     Ok(())
 }
 
-// Against a leader who asks much the follower leaves.
-#[test]
-fn much_through_two_states(rt: HostRuntime) -> Result<(), Fail> {
-    let alloc = rt.alloc();
-    let trial = joined_much(alloc)?;
-    assert!(rt; trial.has_sums(alloc, 2, &[-2, 1], &[1])?);
-    Ok(())
-}
-
-// Against a leader who asks little the follower takes.
-#[test]
-fn little_through_two_states(rt: HostRuntime) -> Result<(), Fail> {
-    let alloc = rt.alloc();
-    let trial = joined_little(alloc)?;
-    assert!(rt; trial.has_sums(alloc, 2, &[5, 0], &[1])?);
-    Ok(())
-}
-
-// One state in the copy's place: what the leader asks is nothing to the follower.
 #[test]
 fn sums_through_one_state(rt: HostRuntime) -> Result<(), Fail> {
     let alloc = rt.alloc();
-    let trial = parted_uniform(alloc)?;
-    assert!(rt; trial.has(alloc, &[7, 8], 2, &[6, 2], &[2])?);
-    Ok(())
-}
+    // One state in the copy's place: what the leader asks is nothing to the follower.
+    assert!(rt; parted_uniform_has(alloc, &[7, 8], &[(2, &[6, 2], &[2])])?);
 
-// Where much is asked, take is worth 3 and leave 1.
-#[test]
-fn much_through_one_state(rt: HostRuntime) -> Result<(), Fail> {
-    let alloc = rt.alloc();
-    let trial = parted_much(alloc)?;
-    assert!(rt; trial.has_sums(alloc, 2, &[3, 1], &[1])?);
-    Ok(())
-}
+    // Where much is asked, take is worth 3 and leave 1.
+    assert!(rt; parted_much_has(alloc, &[], &[(2, &[3, 1], &[1])])?);
 
-// Where little is asked, the same.
-#[test]
-fn little_through_one_state(rt: HostRuntime) -> Result<(), Fail> {
-    let alloc = rt.alloc();
-    let trial = parted_little(alloc)?;
-    assert!(rt; trial.has_sums(alloc, 2, &[3, 1], &[1])?);
+    // Where little is asked, the same.
+    assert!(rt; parted_little_has(alloc, &[], &[(2, &[3, 1], &[1])])?);
     Ok(())
 }
 
 // The leader goes right, since the follower goes right whatever it sees: each gets 1.
 #[test]
 fn sums_of_the_threat(rt: HostRuntime) -> Result<(), Fail> {
-    let alloc = rt.alloc();
-    let trial = threatened(alloc)?;
-    assert!(rt; trial.has_gains(alloc, &[1, 1])?);
+    assert!(rt; threatened_has(rt.alloc(), &[1, 1], &[])?);
     Ok(())
 }
 
-// Rain at 1 and sun at 3, and the agent stays or goes alike: 5 + 0 + 3 * (-1) + 3 * 7.
 #[test]
 fn sums_of_the_trip(rt: HostRuntime) -> Result<(), Fail> {
     let alloc = rt.alloc();
-    let trial = trip_uniform(alloc)?;
-    assert!(rt; trial.has(alloc, &[23], 1, &[5, 0, -3, 21], &[1, 3])?);
+    // Rain at 1 and sun at 3, and the agent stays or goes alike: 5 + 0 + 3 * (-1) + 3 * 7.
+    assert!(rt; trip_uniform_has(alloc, &[23], &[(1, &[5, 0, -3, 21], &[1, 3])])?);
+
+    // To stay in the rain and go in the sun: 5 + 3 * 7.
+    assert!(rt; trip_plan_has(alloc, &[26], &[])?);
     Ok(())
 }
 
-// To stay in the rain and go in the sun: 5 + 3 * 7.
-#[test]
-fn plan_of_the_trip(rt: HostRuntime) -> Result<(), Fail> {
-    let alloc = rt.alloc();
-    let trial = trip_plan(alloc)?;
-    assert!(rt; trial.has_gains(alloc, &[26])?);
-    Ok(())
-}
-
-// The shared result counts in full for each: 3 + 2, and the follower's wish 2 + 2 beside it.
 #[test]
 fn sums_of_the_team(rt: HostRuntime) -> Result<(), Fail> {
     let alloc = rt.alloc();
-    let trial = team_uniform(alloc)?;
-    assert!(rt; trial.has(alloc, &[5, 9], 1, &[3, 2, 0, 4], &[1, 1])?);
+    // The shared result counts in full for each: 3 + 2, and the follower's wish 2 + 2 beside it.
+    assert!(rt; team_uniform_has(alloc, &[5, 9], &[(1, &[3, 2, 0, 4], &[1, 1])])?);
+
+    // The leader takes the first state and the follower what it sees: 3 for each.
+    assert!(rt; team_plan_has(alloc, &[3, 3], &[(0, &[3, 2], &[1])])?);
     Ok(())
 }
 
-// The leader takes the first state and the follower what it sees: 3 for each.
-#[test]
-fn plan_of_the_team(rt: HostRuntime) -> Result<(), Fail> {
-    let alloc = rt.alloc();
-    let trial = team_plan(alloc)?;
-    assert!(rt; trial.has(alloc, &[3, 3], 0, &[3, 2], &[1])?);
-    Ok(())
+/// Whether the weather's weights add up to this, and the uniform rule of the trip's decision has these.
+fn is_weighed(alloc: Global, total: u128, weights: &[u128]) -> Result<bool, AllocError> {
+    let diagram = trip(alloc)?;
+    let profile = Profile::uniform(alloc, &diagram)?;
+    Ok(diagram.weight_total(0) == total && has_weights(&profile, 1, weights))
 }
 
 // The weather's weights add up to 4, and the uniform rule has 1 everywhere.
 #[test]
 fn weights_of_the_trip(rt: HostRuntime) -> Result<(), Fail> {
-    let alloc = rt.alloc();
-    let diagram = trip(alloc)?;
-    assert!(rt; diagram.weight_total(0) == 4);
-    let profile = Profile::uniform(alloc, &diagram)?;
-    assert!(rt; has_weights(&profile, 1, &[1, 1, 1, 1]));
+    assert!(rt; is_weighed(rt.alloc(), 4, &[1, 1, 1, 1])?);
     Ok(())
 }
 
@@ -232,9 +165,8 @@ fn weights_of_the_trip(rt: HostRuntime) -> Result<(), Fail> {
 #[test]
 fn worlds_of_the_trip(rt: HostRuntime) -> Result<(), Fail> {
     let alloc = rt.alloc();
-    let diagram = trip(alloc)?;
     let worlds: [&[usize]; 4] = [&[0, 0, 0], &[0, 1, 0], &[1, 0, 0], &[1, 1, 0]];
-    assert!(rt; has_worlds(alloc, &diagram, &worlds)?);
+    assert!(rt; has_worlds(alloc, &trip(alloc)?, &worlds)?);
     Ok(())
 }
 
@@ -242,9 +174,8 @@ fn worlds_of_the_trip(rt: HostRuntime) -> Result<(), Fail> {
 #[test]
 fn worlds_of_sight(rt: HostRuntime) -> Result<(), Fail> {
     let alloc = rt.alloc();
-    let diagram = sight(alloc)?;
     let worlds: [&[usize]; 4] = [&[0, 0, 0, 0], &[0, 1, 0, 0], &[1, 0, 0, 0], &[1, 1, 0, 0]];
-    assert!(rt; has_worlds(alloc, &diagram, &worlds)?);
+    assert!(rt; has_worlds(alloc, &sight(alloc)?, &worlds)?);
     Ok(())
 }
 
@@ -252,10 +183,7 @@ fn worlds_of_sight(rt: HostRuntime) -> Result<(), Fail> {
 #[test]
 fn reliance_in_sight(rt: HostRuntime) -> Result<(), Fail> {
     let alloc = rt.alloc();
-    let diagram = sight(alloc)?;
-    assert!(rt; relies(alloc, &diagram, 0, &[1])?);
-    assert!(rt; relies(alloc, &diagram, 1, &[])?);
-    assert!(rt; is_order(alloc, &diagram, &[1, 0])?);
+    assert!(rt; is_found(alloc, sight(alloc)?, &[(0, &[1]), (1, &[])], Ok(&[1, 0]))?);
     Ok(())
 }
 
@@ -263,10 +191,7 @@ fn reliance_in_sight(rt: HostRuntime) -> Result<(), Fail> {
 #[test]
 fn reliance_by_copy(rt: HostRuntime) -> Result<(), Fail> {
     let alloc = rt.alloc();
-    let diagram = copied(alloc)?;
-    assert!(rt; relies(alloc, &diagram, 0, &[2])?);
-    assert!(rt; relies(alloc, &diagram, 2, &[0])?);
-    assert!(rt; is_cycle(alloc, &diagram, &[0, 2])?);
+    assert!(rt; is_found(alloc, copied(alloc)?, &[(0, &[2]), (2, &[0])], Err(&[0, 2]))?);
     Ok(())
 }
 
@@ -274,9 +199,7 @@ fn reliance_by_copy(rt: HostRuntime) -> Result<(), Fail> {
 #[test]
 fn reliance_through_two_states(rt: HostRuntime) -> Result<(), Fail> {
     let alloc = rt.alloc();
-    let diagram = joined(alloc)?;
-    assert!(rt; relies(alloc, &diagram, 0, &[2])?);
-    assert!(rt; relies(alloc, &diagram, 2, &[0])?);
+    assert!(rt; is_found(alloc, joined(alloc)?, &[(0, &[2]), (2, &[0])], Err(&[0, 2]))?);
     Ok(())
 }
 
@@ -284,10 +207,7 @@ fn reliance_through_two_states(rt: HostRuntime) -> Result<(), Fail> {
 #[test]
 fn reliance_through_one_state(rt: HostRuntime) -> Result<(), Fail> {
     let alloc = rt.alloc();
-    let diagram = parted(alloc)?;
-    assert!(rt; relies(alloc, &diagram, 0, &[2])?);
-    assert!(rt; relies(alloc, &diagram, 2, &[])?);
-    assert!(rt; is_order(alloc, &diagram, &[2, 0])?);
+    assert!(rt; is_found(alloc, parted(alloc)?, &[(0, &[2]), (2, &[])], Ok(&[2, 0]))?);
     Ok(())
 }
 
@@ -295,10 +215,7 @@ fn reliance_through_one_state(rt: HostRuntime) -> Result<(), Fail> {
 #[test]
 fn cycle_of_pennies(rt: HostRuntime) -> Result<(), Fail> {
     let alloc = rt.alloc();
-    let diagram = coins(alloc)?;
-    assert!(rt; relies(alloc, &diagram, 0, &[1])?);
-    assert!(rt; relies(alloc, &diagram, 1, &[0])?);
-    assert!(rt; is_cycle(alloc, &diagram, &[0, 1])?);
+    assert!(rt; is_found(alloc, coins(alloc)?, &[(0, &[1]), (1, &[0])], Err(&[0, 1]))?);
     Ok(())
 }
 
@@ -306,10 +223,7 @@ fn cycle_of_pennies(rt: HostRuntime) -> Result<(), Fail> {
 #[test]
 fn order_by_copy(rt: HostRuntime) -> Result<(), Fail> {
     let alloc = rt.alloc();
-    let diagram = trace(alloc)?;
-    assert!(rt; relies(alloc, &diagram, 0, &[])?);
-    assert!(rt; relies(alloc, &diagram, 2, &[0])?);
-    assert!(rt; is_order(alloc, &diagram, &[0, 2])?);
+    assert!(rt; is_found(alloc, trace(alloc)?, &[(0, &[]), (2, &[0])], Ok(&[0, 2]))?);
     Ok(())
 }
 
@@ -317,9 +231,6 @@ fn order_by_copy(rt: HostRuntime) -> Result<(), Fail> {
 #[test]
 fn order_of_the_team(rt: HostRuntime) -> Result<(), Fail> {
     let alloc = rt.alloc();
-    let diagram = team(alloc)?;
-    assert!(rt; relies(alloc, &diagram, 0, &[1])?);
-    assert!(rt; relies(alloc, &diagram, 1, &[])?);
-    assert!(rt; is_order(alloc, &diagram, &[1, 0])?);
+    assert!(rt; is_found(alloc, team(alloc)?, &[(0, &[1]), (1, &[])], Ok(&[1, 0]))?);
     Ok(())
 }

@@ -18,7 +18,6 @@ use crate::{
 use maid_model::{Diagram, Kind, Profile, Rule, World, base_sums, leaf_sum};
 use sample_diagrams::{chance, decision, sample_diagram, shared_utility, utility};
 use std::alloc::{AllocError, Global};
-use std::marker::Model;
 
 pub(crate) fn sight(alloc: Global) -> Result<Diagram, AllocError>
     ensures { IfOk result (λ d. d ≡ sight_diagram) }
@@ -141,61 +140,56 @@ fn rule(alloc: Global, decision: usize, total: u128, weights: &[u128]) -> Result
     })
 }
 
-fn profile_of(alloc: Global, first: Rule, second: Rule) -> Result<Profile, AllocError>
-    ensures { IfOk result (λ p. p ≡ first ∷ second ∷ []) }
+/// The pure rule of node 0 with the weights `leads`, and the rule of another decision.
+fn profile_of(
+    alloc: Global,
+    leads: &[u128],
+    decision: usize,
+    total: u128,
+    follows: &[u128],
+) -> Result<Profile, AllocError>
+    ensures { IfOk result (λ p. p ≡ rule 0 1 leads.now ∷ rule decision total follows.now ∷ []) }
 {
     let mut rules = Vec::new(alloc);
-    rules.push(first)?;
-    rules.push(second)?;
+    rules.push(rule(alloc, 0, 1, leads)?)?;
+    rules.push(rule(alloc, decision, total, follows)?)?;
     Ok(Profile::from_rules(rules))
 }
 
 fn plan_in_sight(alloc: Global) -> Result<Profile, AllocError>
     ensures { IfOk result (λ p. p ≡ plan 1) }
 {
-    let leader = rule(alloc, 0, 1, &[0, 1])?;
-    let follower = rule(alloc, 1, 1, &[0, 1, 1, 0])?;
-    profile_of(alloc, leader, follower)
+    profile_of(alloc, &[0, 1], 1, 1, &[0, 1, 1, 0])
 }
 
 fn plan_by_copy(alloc: Global) -> Result<Profile, AllocError>
     ensures { IfOk result (λ p. p ≡ plan 2) }
 {
-    let leader = rule(alloc, 0, 1, &[0, 1])?;
-    let follower = rule(alloc, 2, 1, &[0, 1, 1, 0])?;
-    profile_of(alloc, leader, follower)
+    profile_of(alloc, &[0, 1], 2, 1, &[0, 1, 1, 0])
 }
 
 fn asks_much(alloc: Global) -> Result<Profile, AllocError>
     ensures { IfOk result (λ p. p ≡ asks_much) }
 {
-    let leader = rule(alloc, 0, 1, &[1, 0])?;
-    let follower = rule(alloc, 2, 2, &[1, 1])?;
-    profile_of(alloc, leader, follower)
+    profile_of(alloc, &[1, 0], 2, 2, &[1, 1])
 }
 
 fn asks_little(alloc: Global) -> Result<Profile, AllocError>
     ensures { IfOk result (λ p. p ≡ asks_little) }
 {
-    let leader = rule(alloc, 0, 1, &[0, 1])?;
-    let follower = rule(alloc, 2, 2, &[1, 1])?;
-    profile_of(alloc, leader, follower)
+    profile_of(alloc, &[0, 1], 2, 2, &[1, 1])
 }
 
 fn threat(alloc: Global) -> Result<Profile, AllocError>
     ensures { IfOk result (λ p. p ≡ threat) }
 {
-    let leader = rule(alloc, 0, 1, &[0, 1])?;
-    let follower = rule(alloc, 1, 1, &[0, 1, 0, 1])?;
-    profile_of(alloc, leader, follower)
+    profile_of(alloc, &[0, 1], 1, 1, &[0, 1, 0, 1])
 }
 
 fn team_rules(alloc: Global) -> Result<Profile, AllocError>
     ensures { IfOk result (λ p. p ≡ team_rules) }
 {
-    let leader = rule(alloc, 0, 1, &[1, 0])?;
-    let follower = rule(alloc, 1, 1, &[1, 0, 0, 1])?;
-    profile_of(alloc, leader, follower)
+    profile_of(alloc, &[1, 0], 1, 1, &[1, 0, 0, 1])
 }
 
 /// To stay in the rain and go in the sun.
@@ -207,210 +201,239 @@ fn outing(alloc: Global) -> Result<Profile, AllocError>
     Ok(Profile::from_rules(rules))
 }
 
-/// G, row by row and the state fastest, and R of each row.
-#[derive(Drop)]
-struct Sums {
-    gains: Vec<i128>,
-    masses: Vec<u128>,
+/// Whether N of the agent is this.
+fn has_gain(
+    alloc: Global,
+    diagram: &Diagram,
+    profile: &Profile,
+    agent: usize,
+    gain: i128,
+) -> Result<bool, AllocError>
+    requires { HasRoomForTrial (record { diagram = diagram.now; profile = profile.now }) }
+{
+    let mut world = World::first(alloc, diagram)?;
+    Ok(leaf_sum(diagram, profile, agent, &mut world) == gain)
 }
 
-/// A diagram with a profile, and room for their sums.
-#[derive(Drop)]
-pub(crate) struct Trial {
-    diagram: Diagram,
-    profile: Profile,
+/// Whether the node is a decision whose sums are these: G, row by row and the state fastest, and R of each row.
+fn has_sums(
+    alloc: Global,
+    diagram: &Diagram,
+    profile: &Profile,
+    decision: usize,
+    gains: &[i128],
+    masses: &[u128],
+) -> Result<bool, AllocError>
+    requires { HasRoomForTrial (record { diagram = diagram.now; profile = profile.now }) }
+{
+    if decision >= diagram.count() || diagram.kind(decision) != Kind::Decision {
+        return Ok(false);
+    }
+    let mut world = World::first(alloc, diagram)?;
+    let rows = diagram.rows(decision);
+    let mut of_rows = vec![in alloc; 0; rows]?;
+    let mut of_states = vec![in alloc; 0; rows * diagram.states(decision)]?;
+    base_sums(
+        diagram,
+        profile,
+        decision,
+        &mut world,
+        &mut of_states,
+        &mut of_rows,
+    );
+    Ok(of_states.as_slice() == gains && of_rows.as_slice() == masses)
 }
 
-impl Model for Trial {
-    ghost use Rattle.maid_examples.specs.Trial.{TrialView, HasRoomForTrial};
+/// A decision, its G, row by row and the state fastest, and R of each row.
+pub(crate) type Sums<'a> = (usize, &'a [i128], &'a [u128]);
 
-    ghost Value = { TrialView };
-
-    ghost view = { λ t. record { diagram = t.diagram; profile = t.profile } };
-
-    ghost invariant = { λ t. HasRoomForTrial (record { diagram = t.diagram; profile = t.profile }) };
+/// Whether the agents' N are these, from agent 0 on, and so the sums of each of these decisions.
+fn has(
+    alloc: Global,
+    diagram: &Diagram,
+    profile: &Profile,
+    gains: &[i128],
+    sums: &[Sums],
+) -> Result<bool, AllocError>
+    requires { HasRoomForTrial (record { diagram = diagram.now; profile = profile.now }) }
+{
+    for (agent, gain) in gains.iter().enumerate() {
+        if !has_gain(alloc, diagram, profile, agent, *gain)? {
+            return Ok(false);
+        }
+    }
+    for (decision, gains, masses) in sums {
+        if !has_sums(alloc, diagram, profile, *decision, gains, masses)? {
+            return Ok(false);
+        }
+    }
+    Ok(true)
 }
 
-impl Trial {
-    fn new(diagram: Diagram, profile: Profile) -> Trial
-        requires { HasRoomForTrial (record { diagram = diagram; profile = profile }) }
-    {
-        Trial { diagram, profile }
-    }
+// Each of these tells whether its diagram has these N and sums under its rules. The law before it says that they are a
+// profile of the diagram.
 
-    /// Whether the agents' N are these, from agent 0 on.
-    pub(crate) fn has_gains(&self, alloc: Global, gains: &[i128]) -> Result<bool, AllocError> {
-        for (agent, gain) in gains.iter().enumerate() {
-            if self.gain(alloc, agent)? != *gain {
-                return Ok(false);
-            }
-        }
-        Ok(true)
-    }
-
-    /// Whether the decision's sums are these: G, row by row and the state fastest, and R of each row.
-    pub(crate) fn has_sums(
-        &self,
-        alloc: Global,
-        decision: usize,
-        gains: &[i128],
-        masses: &[u128],
-    ) -> Result<bool, AllocError> {
-        let sums = self.sums(alloc, decision)?;
-        Ok(sums.gains.as_slice() == gains && sums.masses.as_slice() == masses)
-    }
-
-    /// Whether the agents' N are these, and so the decision's sums.
-    pub(crate) fn has(
-        &self,
-        alloc: Global,
-        worths: &[i128],
-        decision: usize,
-        gains: &[i128],
-        masses: &[u128],
-    ) -> Result<bool, AllocError> {
-        if self.has_gains(alloc, worths)? {
-            self.has_sums(alloc, decision, gains, masses)
-        } else {
-            Ok(false)
-        }
-    }
-
-    /// N of the agent.
-    fn gain(&self, alloc: Global, agent: usize) -> Result<i128, AllocError> {
-        let mut world = World::first(alloc, &self.diagram)?;
-        Ok(leaf_sum(&self.diagram, &self.profile, agent, &mut world))
-    }
-
-    /// The sums of a node, empty where it is no decision.
-    fn sums(&self, alloc: Global, decision: usize) -> Result<Sums, AllocError> {
-        let mut sums = Sums {
-            gains: Vec::new(alloc),
-            masses: Vec::new(alloc),
-        };
-        if decision >= self.diagram.count() {
-            return Ok(sums);
-        }
-        if self.diagram.kind(decision) != Kind::Decision {
-            return Ok(sums);
-        }
-        let rows = self.diagram.rows(decision);
-        let mut world = World::first(alloc, &self.diagram)?;
-        sums.gains = vec![in alloc; 0; rows * self.diagram.states(decision)]?;
-        sums.masses = vec![in alloc; 0; rows]?;
-        base_sums(
-            &self.diagram,
-            &self.profile,
-            decision,
-            &mut world,
-            &mut sums.gains,
-            &mut sums.masses,
-        );
-        Ok(sums)
-    }
-}
-
-pub(crate) fn sight_uniform(alloc: Global) -> Result<Trial, AllocError> {
+pub(crate) fn sight_uniform_has(
+    alloc: Global,
+    gains: &[i128],
+    sums: &[Sums],
+) -> Result<bool, AllocError> {
     follower_and_leader();
     let diagram = sight(alloc)?;
     let profile = Profile::uniform(alloc, &diagram)?;
-    Ok(Trial::new(diagram, profile))
+    has(alloc, &diagram, &profile, gains, sums)
 }
 
-pub(crate) fn sight_plan(alloc: Global) -> Result<Trial, AllocError> {
+pub(crate) fn sight_plan_has(
+    alloc: Global,
+    gains: &[i128],
+    sums: &[Sums],
+) -> Result<bool, AllocError> {
     follower_and_leader();
     let diagram = sight(alloc)?;
     let profile = plan_in_sight(alloc)?;
-    Ok(Trial::new(diagram, profile))
+    has(alloc, &diagram, &profile, gains, sums)
 }
 
-pub(crate) fn copied_uniform(alloc: Global) -> Result<Trial, AllocError> {
+pub(crate) fn copied_uniform_has(
+    alloc: Global,
+    gains: &[i128],
+    sums: &[Sums],
+) -> Result<bool, AllocError> {
     copy_in_place();
     let diagram = copied(alloc)?;
     let profile = Profile::uniform(alloc, &diagram)?;
-    Ok(Trial::new(diagram, profile))
+    has(alloc, &diagram, &profile, gains, sums)
 }
 
-pub(crate) fn copied_plan(alloc: Global) -> Result<Trial, AllocError> {
+pub(crate) fn copied_plan_has(
+    alloc: Global,
+    gains: &[i128],
+    sums: &[Sums],
+) -> Result<bool, AllocError> {
     copy_in_place();
     let diagram = copied(alloc)?;
     let profile = plan_by_copy(alloc)?;
-    Ok(Trial::new(diagram, profile))
+    has(alloc, &diagram, &profile, gains, sums)
 }
 
-pub(crate) fn joined_uniform(alloc: Global) -> Result<Trial, AllocError> {
+pub(crate) fn joined_uniform_has(
+    alloc: Global,
+    gains: &[i128],
+    sums: &[Sums],
+) -> Result<bool, AllocError> {
     one_state_between();
     let diagram = joined(alloc)?;
     let profile = Profile::uniform(alloc, &diagram)?;
-    Ok(Trial::new(diagram, profile))
+    has(alloc, &diagram, &profile, gains, sums)
 }
 
-pub(crate) fn joined_much(alloc: Global) -> Result<Trial, AllocError> {
+pub(crate) fn joined_much_has(
+    alloc: Global,
+    gains: &[i128],
+    sums: &[Sums],
+) -> Result<bool, AllocError> {
     one_state_between();
     let diagram = joined(alloc)?;
     let profile = asks_much(alloc)?;
-    Ok(Trial::new(diagram, profile))
+    has(alloc, &diagram, &profile, gains, sums)
 }
 
-pub(crate) fn joined_little(alloc: Global) -> Result<Trial, AllocError> {
+pub(crate) fn joined_little_has(
+    alloc: Global,
+    gains: &[i128],
+    sums: &[Sums],
+) -> Result<bool, AllocError> {
     one_state_between();
     let diagram = joined(alloc)?;
     let profile = asks_little(alloc)?;
-    Ok(Trial::new(diagram, profile))
+    has(alloc, &diagram, &profile, gains, sums)
 }
 
-pub(crate) fn parted_uniform(alloc: Global) -> Result<Trial, AllocError> {
+pub(crate) fn parted_uniform_has(
+    alloc: Global,
+    gains: &[i128],
+    sums: &[Sums],
+) -> Result<bool, AllocError> {
     one_state_between();
     let diagram = parted(alloc)?;
     let profile = Profile::uniform(alloc, &diagram)?;
-    Ok(Trial::new(diagram, profile))
+    has(alloc, &diagram, &profile, gains, sums)
 }
 
-pub(crate) fn parted_much(alloc: Global) -> Result<Trial, AllocError> {
+pub(crate) fn parted_much_has(
+    alloc: Global,
+    gains: &[i128],
+    sums: &[Sums],
+) -> Result<bool, AllocError> {
     one_state_between();
     let diagram = parted(alloc)?;
     let profile = asks_much(alloc)?;
-    Ok(Trial::new(diagram, profile))
+    has(alloc, &diagram, &profile, gains, sums)
 }
 
-pub(crate) fn parted_little(alloc: Global) -> Result<Trial, AllocError> {
+pub(crate) fn parted_little_has(
+    alloc: Global,
+    gains: &[i128],
+    sums: &[Sums],
+) -> Result<bool, AllocError> {
     one_state_between();
     let diagram = parted(alloc)?;
     let profile = asks_little(alloc)?;
-    Ok(Trial::new(diagram, profile))
+    has(alloc, &diagram, &profile, gains, sums)
 }
 
-pub(crate) fn threatened(alloc: Global) -> Result<Trial, AllocError> {
+pub(crate) fn threatened_has(
+    alloc: Global,
+    gains: &[i128],
+    sums: &[Sums],
+) -> Result<bool, AllocError> {
     empty_threat();
     let diagram = moves(alloc)?;
     let profile = threat(alloc)?;
-    Ok(Trial::new(diagram, profile))
+    has(alloc, &diagram, &profile, gains, sums)
 }
 
-pub(crate) fn trip_uniform(alloc: Global) -> Result<Trial, AllocError> {
+pub(crate) fn trip_uniform_has(
+    alloc: Global,
+    gains: &[i128],
+    sums: &[Sums],
+) -> Result<bool, AllocError> {
     a_trip();
     let diagram = trip(alloc)?;
     let profile = Profile::uniform(alloc, &diagram)?;
-    Ok(Trial::new(diagram, profile))
+    has(alloc, &diagram, &profile, gains, sums)
 }
 
-pub(crate) fn trip_plan(alloc: Global) -> Result<Trial, AllocError> {
+pub(crate) fn trip_plan_has(
+    alloc: Global,
+    gains: &[i128],
+    sums: &[Sums],
+) -> Result<bool, AllocError> {
     a_trip();
     let diagram = trip(alloc)?;
     let profile = outing(alloc)?;
-    Ok(Trial::new(diagram, profile))
+    has(alloc, &diagram, &profile, gains, sums)
 }
 
-pub(crate) fn team_uniform(alloc: Global) -> Result<Trial, AllocError> {
+pub(crate) fn team_uniform_has(
+    alloc: Global,
+    gains: &[i128],
+    sums: &[Sums],
+) -> Result<bool, AllocError> {
     shared_result();
     let diagram = team(alloc)?;
     let profile = Profile::uniform(alloc, &diagram)?;
-    Ok(Trial::new(diagram, profile))
+    has(alloc, &diagram, &profile, gains, sums)
 }
 
-pub(crate) fn team_plan(alloc: Global) -> Result<Trial, AllocError> {
+pub(crate) fn team_plan_has(
+    alloc: Global,
+    gains: &[i128],
+    sums: &[Sums],
+) -> Result<bool, AllocError> {
     shared_result();
     let diagram = team(alloc)?;
     let profile = team_rules(alloc)?;
-    Ok(Trial::new(diagram, profile))
+    has(alloc, &diagram, &profile, gains, sums)
 }

@@ -3,7 +3,7 @@
 
 use crate::running::{REPORT, ended};
 use maid_app::{Status, lines};
-use std::alloc::Global;
+use std::alloc::{AllocError, Global};
 use std::test::Fail;
 
 // A run of each form that ends well, and at how many calls of the shelf: a start, four reads of the diagram and one
@@ -44,22 +44,13 @@ const ABSENT: &str = "absent: gone.net\n";
 // The room of `out`: all that any of the runs writes.
 const ROOM: usize = 1000;
 
-// The text of a run whose devices don't fail.
-fn text_of(alloc: Global, words: &str) -> Result<Vec<u8>, Fail> {
-    let end = ended(alloc, words, [0, 0, 0], ROOM)?;
-    if end.status != Status::Done {
-        return Err(Fail::new(words));
-    }
-    Ok(end.out)
-}
-
 // Whether the run ends well with this text: it makes no call of these numbers.
-fn ends_well(alloc: Global, words: &str, calls: [u64; 3], text: &[u8]) -> Result<bool, Fail> {
+fn ends_well(alloc: Global, words: &str, calls: [u64; 3], text: &[u8]) -> Result<bool, AllocError> {
     Ok(ended(alloc, words, calls, ROOM)?.is(Status::Done, text, &[]))
 }
 
 // Whether the run tells a read fault where this call of the shelf fails, and writes no text.
-fn tells_the_read(alloc: Global, words: &str, call: u64) -> Result<bool, Fail> {
+fn tells_the_read(alloc: Global, words: &str, call: u64) -> Result<bool, AllocError> {
     let line = if call < 7 {
         "read fault: steer.net\n"
     } else {
@@ -70,14 +61,19 @@ fn tells_the_read(alloc: Global, words: &str, call: u64) -> Result<bool, Fail> {
 }
 
 // Whether the run tells a write fault where this call of `out` fails, which has taken ten bytes at each one before.
-fn tells_the_write(alloc: Global, words: &str, call: usize, text: &[u8]) -> Result<bool, Fail> {
+fn tells_the_write(
+    alloc: Global,
+    words: &str,
+    call: usize,
+    text: &[u8],
+) -> Result<bool, AllocError> {
     let end = ended(alloc, words, [0, call as u64, 0], ROOM)?;
     let taken = call.saturating_sub(1).saturating_mul(10);
     Ok(
         end.status == Status::WriteFault
-            && end.out.len() == taken
-            && text.starts_with(&end.out)
-            && end.err.as_slice() == "write fault\n".as_bytes(),
+            && end.out().len() == taken
+            && text.starts_with(end.out())
+            && end.err() == "write fault\n".as_bytes(),
     )
 }
 
@@ -89,66 +85,90 @@ fn keeps_the_status(
     call: usize,
     status: Status,
     line: &[u8],
-) -> Result<bool, Fail> {
+) -> Result<bool, AllocError> {
     let end = ended(alloc, words, [0, 0, call as u64], ROOM)?;
     let taken = call.saturating_sub(1).saturating_mul(7).min(line.len());
     Ok(
         end.status == status
-            && end.out.is_empty()
-            && end.err.len() == taken
-            && line.starts_with(&end.err),
+            && end.out().is_empty()
+            && end.err().len() == taken
+            && line.starts_with(end.err()),
     )
+}
+
+// The first call of the shelf whose failure the run does not tell, or the one after the last where that changes
+// anything; 0 where the run does not end well of itself.
+fn wrong_read(alloc: Global, words: &str, calls: u64) -> Result<Option<u64>, AllocError> {
+    let whole = ended(alloc, words, [0, 0, 0], ROOM)?;
+    if whole.status != Status::Done {
+        return Ok(Some(0));
+    }
+    let after = calls.saturating_add(1);
+    for call in 1..after {
+        if !tells_the_read(alloc, words, call)? {
+            return Ok(Some(call));
+        }
+    }
+    let ends = ends_well(alloc, words, [after, 0, 0], whole.out())?;
+    Ok(if ends { None } else { Some(after) })
 }
 
 #[test]
 fn each_call_of_the_shelf_fails_in_turn(rt: HostRuntime) -> Result<(), Fail> {
-    let alloc = rt.alloc();
-    for (words, calls) in RUNS {
-        let text = text_of(alloc, words)?;
-        for call in 1..calls + 1 {
-            assert!(rt; tells_the_read(alloc, words, call)?, "{words} {call}");
-        }
-        assert!(rt;
-            ends_well(alloc, words, [calls + 1, 0, 0], &text)?,
-            "{words}"
-        );
+    for (words, calls) in &RUNS {
+        let wrong = wrong_read(rt.alloc(), words, *calls)?;
+        assert!(rt; wrong.is_none(), "{words} {wrong:?}");
     }
     Ok(())
+}
+
+// The same for the calls of `out`.
+fn wrong_write(alloc: Global, words: &str) -> Result<Option<usize>, AllocError> {
+    let whole = ended(alloc, words, [0, 0, 0], ROOM)?;
+    if whole.status != Status::Done {
+        return Ok(Some(0));
+    }
+    let after = whole.out().len().div_ceil(10) + 1;
+    for call in 1..after {
+        if !tells_the_write(alloc, words, call, whole.out())? {
+            return Ok(Some(call));
+        }
+    }
+    let ends = ends_well(alloc, words, [0, after as u64, 0], whole.out())?;
+    Ok(if ends { None } else { Some(after) })
 }
 
 // Ten bytes a write: the bytes before the call that fails have been taken, and no others.
 #[test]
 fn each_write_of_the_text_fails_in_turn(rt: HostRuntime) -> Result<(), Fail> {
-    let alloc = rt.alloc();
-    for (words, _) in RUNS {
-        let text = text_of(alloc, words)?;
-        let writes = text.len().div_ceil(10);
-        for call in 1..writes + 1 {
-            assert!(rt;
-                tells_the_write(alloc, words, call, &text)?,
-                "{words} {call}"
-            );
-        }
-        assert!(rt;
-            ends_well(alloc, words, [0, writes as u64 + 1, 0], &text)?,
-            "{words}"
-        );
+    for (words, _) in &RUNS {
+        let wrong = wrong_write(rt.alloc(), words)?;
+        assert!(rt; wrong.is_none(), "{words} {wrong:?}");
     }
     Ok(())
+}
+
+// The first call of `err`, up to the one after the last, that does not keep the status where it fails.
+fn wrong_line(
+    alloc: Global,
+    words: &str,
+    status: Status,
+    line: &[u8],
+) -> Result<Option<usize>, AllocError> {
+    for call in 1..line.len().div_ceil(7) + 2 {
+        if !keeps_the_status(alloc, words, call, status, line)? {
+            return Ok(Some(call));
+        }
+    }
+    Ok(None)
 }
 
 // Seven bytes a write. The status stays what it is, and `out` is not touched.
 #[test]
 fn each_write_of_the_line_fails_in_turn(rt: HostRuntime) -> Result<(), Fail> {
-    let alloc = rt.alloc();
-    for (words, status, line) in REFUSED {
-        let line = line.as_bytes();
-        for call in 1..line.len().div_ceil(7) + 2 {
-            assert!(rt;
-                keeps_the_status(alloc, words, call, status, line)?,
-                "{words} {call}"
-            );
-        }
+    for (words, status, line) in &REFUSED {
+        let wrong = wrong_line(rt.alloc(), words, *status, line.as_bytes())?;
+        assert!(rt; wrong.is_none(), "{words} {wrong:?}");
     }
     Ok(())
 }

@@ -4,7 +4,7 @@ ghost use Rattle.std.specs.Prelude.{◌≤◌};
 
 use maid_app::{Status, lines, run};
 use maid_io::{MemShelf, MemSink};
-use std::alloc::Global;
+use std::alloc::{AllocError, Global};
 use std::test::Fail;
 
 // A driver sees which way the road bends, and steers.
@@ -233,40 +233,74 @@ const CODES: [(Status, u8); 8] = [
     (Status::Rejected, 11),
 ];
 
+// The files of the shelf.
+const FILES: [(&str, &str); 11] = [
+    ("steer.net", STEER),
+    ("never.net", NEVER),
+    ("lead.net", LEAD),
+    ("pennies.net", PENNIES),
+    ("thirds.net", THIRDS),
+    ("arcs.net", ARCS),
+    ("zero.net", ZERO),
+    ("ring.net", RING),
+    ("open.net", "net {\n a = \"b"),
+    ("steer.rep", REPORT),
+    ("worse.rep", WORSE_REPORT),
+];
+
 // How a run ended, and what `out` and `err` took.
 #[derive(Drop)]
 pub struct Ending {
     pub status: Status,
-    pub out: Vec<u8>,
-    pub err: Vec<u8>,
+    out: MemSink,
+    err: MemSink,
 }
 
 impl Ending {
+    // The bytes that `out` took.
+    pub fn out(&self) -> &[u8] {
+        self.out.bytes()
+    }
+
+    // The bytes that `err` took.
+    pub fn err(&self) -> &[u8] {
+        self.err.bytes()
+    }
+
     // Whether it ended with this status, and `out` and `err` took these bytes.
     pub fn is(&self, status: Status, out: &[u8], err: &[u8]) -> bool {
-        self.status == status && self.out.as_slice() == out && self.err.as_slice() == err
+        self.status == status && self.out() == out && self.err() == err
     }
 }
 
+// The file of that name with this text.
+fn file(alloc: Global, name: &str, text: &[u8]) -> Result<(String, Vec<u8>), AllocError> {
+    Ok((name.to_string(alloc)?, text.to_vec(alloc)?))
+}
+
 // The files of the shelf.
-fn files(alloc: Global) -> Result<Vec<(String, Vec<u8>)>, Fail> {
+fn files(alloc: Global) -> Result<Vec<(String, Vec<u8>)>, AllocError> {
     let mut files = Vec::new(alloc);
-    for (name, text) in [
-        ("steer.net", STEER),
-        ("never.net", NEVER),
-        ("lead.net", LEAD),
-        ("pennies.net", PENNIES),
-        ("thirds.net", THIRDS),
-        ("arcs.net", ARCS),
-        ("zero.net", ZERO),
-        ("ring.net", RING),
-        ("open.net", "net {\n a = \"b"),
-        ("steer.rep", REPORT),
-        ("worse.rep", WORSE_REPORT),
-    ] {
-        files.push((name.to_string(alloc)?, text.as_bytes().to_vec(alloc)?))?;
+    for (name, text) in &FILES {
+        files.push(file(alloc, name, text.as_bytes())?)?;
     }
     Ok(files)
+}
+
+// The words between the spaces.
+fn list_of(alloc: Global, words: &str) -> Result<Vec<String>, AllocError> {
+    let mut list = Vec::new(alloc);
+    for word in words.split_whitespace() {
+        list.push(word.to_string(alloc)?)?;
+    }
+    Ok(list)
+}
+
+// A sink of so much room, which takes at most `piece` bytes a write and fails at that call.
+fn sink(alloc: Global, room: usize, call: u64, piece: usize) -> Result<MemSink, AllocError>
+    requires { 1 ≤ piece }
+{
+    MemSink::new(alloc, room, vec![in alloc; call]?, piece)
 }
 
 // Runs the words over a shelf of these files that gives 50 bytes a read at most, an `out` with so much room
@@ -277,24 +311,33 @@ fn ended_over(
     files: Vec<(String, Vec<u8>)>,
     [shelf_call, out_call, err_call]: [u64; 3],
     room: usize,
-) -> Result<Ending, Fail> {
-    let mut list = Vec::new(alloc);
-    for word in words.split_whitespace() {
-        list.push(word.to_string(alloc)?)?;
-    }
+) -> Result<Ending, AllocError> {
     let mut shelf = MemShelf::new(files, vec![in alloc; shelf_call]?, 50);
-    let mut out = MemSink::new(alloc, room, vec![in alloc; out_call]?, 10)?;
-    let mut err = MemSink::new(alloc, 200, vec![in alloc; err_call]?, 7)?;
-    let status = run(alloc, &list, &mut shelf, &mut out, &mut err);
-    Ok(Ending {
-        status,
-        out: out.bytes().to_vec(alloc)?,
-        err: err.bytes().to_vec(alloc)?,
-    })
+    let mut out = sink(alloc, room, out_call, 10)?;
+    let mut err = sink(alloc, 200, err_call, 7)?;
+    let list = list_of(alloc, words)?;
+    let status = status_of(alloc, &list, &mut shelf, &mut out, &mut err);
+    Ok(Ending { status, out, err })
+}
+
+// The status of the run. What else `run` promises of it is of no use here.
+fn status_of(
+    alloc: Global,
+    words: &[String],
+    shelf: &mut MemShelf,
+    out: &mut MemSink,
+    err: &mut MemSink,
+) -> Status {
+    run(alloc, words, shelf, out, err)
 }
 
 // The same over the files above.
-pub fn ended(alloc: Global, words: &str, calls: [u64; 3], room: usize) -> Result<Ending, Fail> {
+pub fn ended(
+    alloc: Global,
+    words: &str,
+    calls: [u64; 3],
+    room: usize,
+) -> Result<Ending, AllocError> {
     ended_over(alloc, words, files(alloc)?, calls, room)
 }
 
@@ -306,43 +349,51 @@ fn ends(
     status: Status,
     out: &str,
     err: &str,
-) -> Result<bool, Fail> {
+) -> Result<bool, AllocError> {
     let end = ended(alloc, words, [call, 0, 0], 400)?;
     Ok(end.is(status, out.as_bytes(), err.as_bytes()))
 }
 
 // Whether a run over a file of this text tells a fault of the text.
-fn is_refused(alloc: Global, text: &[u8]) -> Result<bool, Fail> {
+fn is_refused(alloc: Global, text: &[u8]) -> Result<bool, AllocError> {
     let mut files = Vec::new(alloc);
-    files.push(("cut.net".to_string(alloc)?, text.to_vec(alloc)?))?;
+    files.push(file(alloc, "cut.net", text)?)?;
     let end = ended_over(alloc, "solve cut.net", files, [0, 0, 0], 400)?;
     Ok(
         end.status == Status::TextFault
-            && end.out.is_empty()
-            && end.err.as_slice().starts_with("cut.net:".as_bytes()),
+            && end.out().is_empty()
+            && end.err().starts_with("cut.net:".as_bytes()),
     )
 }
 
-// Whether the generated diagram of K stages is solved: they are worth K - 1 + 2^-K.
-fn is_solved(alloc: Global, k: u32) -> Result<bool, Fail>
+// The text of the generated diagram of K stages: they are worth K - 1 + 2^-K.
+fn demo_of(alloc: Global, k: u32) -> Result<String, AllocError>
+    requires low { 1 ≤ k }
+    requires high { k ≤ 60 }
+{
+    let whole = 1u128 << k;
+    format!(in alloc;
+        "demo {k}\nnodes {}\nagent \"agent\" = {}/{whole}\n",
+        3 * k,
+        u128::from(k - 1) * whole + 1
+    )
+}
+
+// Whether the generated diagram of K stages is solved.
+fn is_solved(alloc: Global, k: u32) -> Result<bool, AllocError>
     requires low { 1 ≤ k }
     requires high { k ≤ 60 }
 {
     let words = format!(in alloc; "demo {k}")?;
-    let whole = 1u128 << k;
-    let want = format!(in alloc;
-        "demo {k}\nnodes {}\nagent \"agent\" = {}/{whole}\n",
-        3 * k,
-        u128::from(k - 1) * whole + 1
-    )?;
+    let want = demo_of(alloc, k)?;
     ends(alloc, &words, 1, Status::Done, &want, "")
 }
 
 #[test]
 fn texts_are_written(rt: HostRuntime) -> Result<(), Fail> {
-    for (words, call, text) in WRITTEN {
+    for (words, call, text) in &WRITTEN {
         assert!(rt;
-            ends(rt.alloc(), words, call, Status::Done, text, "")?,
+            ends(rt.alloc(), words, *call, Status::Done, text, "")?,
             "{words}"
         );
     }
@@ -351,7 +402,7 @@ fn texts_are_written(rt: HostRuntime) -> Result<(), Fail> {
 
 #[test]
 fn reports_are_rejected(rt: HostRuntime) -> Result<(), Fail> {
-    for (words, text) in REJECTED {
+    for (words, text) in &REJECTED {
         assert!(rt;
             ends(rt.alloc(), words, 0, Status::Rejected, text, "")?,
             "{words}"
@@ -362,7 +413,7 @@ fn reports_are_rejected(rt: HostRuntime) -> Result<(), Fail> {
 
 #[test]
 fn words_of_no_form_are_refused(rt: HostRuntime) -> Result<(), Fail> {
-    for words in FORMLESS {
+    for words in &FORMLESS {
         assert!(rt;
             ends(rt.alloc(), words, 0, Status::Usage, "", lines::USAGE)?,
             "{words}"
@@ -373,9 +424,9 @@ fn words_of_no_form_are_refused(rt: HostRuntime) -> Result<(), Fail> {
 
 #[test]
 fn faults_are_told(rt: HostRuntime) -> Result<(), Fail> {
-    for (words, call, status, line) in TOLD {
+    for (words, call, status, line) in &TOLD {
         assert!(rt;
-            ends(rt.alloc(), words, call, status, "", line)?,
+            ends(rt.alloc(), words, *call, *status, "", line)?,
             "{words} {call}"
         );
     }
@@ -393,8 +444,8 @@ fn a_report_is_cut_off(rt: HostRuntime) -> Result<(), Fail> {
 
 #[test]
 fn statuses_have_their_codes(rt: HostRuntime) {
-    for (status, code) in CODES {
-        assert!(rt; status.code() == code, "{code}");
+    for (status, code) in &CODES {
+        assert!(rt; status.code() == *code, "{code}");
     }
 }
 

@@ -12,14 +12,14 @@ use Rattle.cell_rings.specs.Rings.{IsRing, IsSize}
 use Rattle.ring_sums.specs.Groups.{StepsFit}
 use Rattle.ring_sums.proofs.Same.{fits_more}
 use Rattle.plan_sums.specs.Laws.{IsOrderOfPlan}
-use Rattle.plan_sums.specs.Plans.{Cells, first_tables}
+use Rattle.plan_sums.specs.Plans.{Cells, PlanView, first_tables}
 use Rattle.plan_sums.specs.Sizes.{AreSized}
 use Rattle.plan_sums.proofs.Sized.{plans_fit}
 use Rattle.eliminate.specs.Results.{plan_total, tables_at}
 use Rattle.eliminate.proofs.Numbers.{bound_fits}
 use Rattle.eliminate.proofs.Whole.{firsts_are}
 use Rattle.size_precheck.specs.Sizes.{CanBePlanned}
-use Rattle.sum_tests.specs.Example.{example_nodes, example, states_plan}
+use Rattle.sum_tests.specs.Example.{example_nodes, example, states_plan, ExampleFits}
 
 plain : (v : ℕ) → Among v (2 ∷ 1 ∷ []) → (node_at example_nodes v).kind ≢ Utility
 plain v (inl e) f = absurd (let k = ap (λ x. (node_at example_nodes x).kind) (sym e) ∙ f in cc)
@@ -48,6 +48,13 @@ states_asked = record {
 
     three : (u : ℕ) → Some 3 ≡ Some u → 3 ≡ u
     three u e = cc
+
+-- the sums of the plan that was made fit where those of the plan that was asked for do
+pub plan_fits : {d : DiagramView} {p : List RuleView} {made asked : PlanView} {most : ℕ} → d ≡ example → p ≡ uniform_profile d.nodes → made ≡ asked → ExampleFits most asked → 2 * plan_total d.nodes p made ≤ most
+plan_fits {d = d} {p = p} {made = made} {most = most} e uniform planned fits =
+    let whole = subst (λ (x : PlanView). ExampleFits most x) (sym planned) fits in
+    subst (λ (x : DiagramView). p ≡ uniform_profile x.nodes → 2 * plan_total x.nodes p made ≤ most) (sym e)
+    (λ is. subst (λ rules. 2 * plan_total example_nodes rules made ≤ most) (sym is) whole) uniform
 
 -- ---- the sum of all of its tables but the decision's
 states_order : IsOrderOfPlan example_nodes states_plan (0 ∷ [])

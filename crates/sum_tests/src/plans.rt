@@ -1,8 +1,10 @@
 //! Sums of small plans, worked out by hand.
 
-ghost use Rattle.std.specs.Prelude.{◌≡◌, ◌≤◌, IfOk};
+ghost use Rattle.std.specs.Prelude.{◌≡◌, ◌*◌, ◌≤◌, IfOk};
 ghost use Rattle.maid_model.specs.declared.limits.TheConstants.{MOST_PLAN_CELLS};
-ghost use Rattle.size_precheck.specs.Sizes.{plan_of, CanBePlanned};
+ghost use Rattle.maid_model.specs.Profiles.{IsProfile};
+ghost use Rattle.size_precheck.specs.Sizes.{plan_of, CanBePlanned, IsMade};
+ghost use Rattle.eliminate.specs.Results.{plan_total};
 ghost use Rattle.sum_tests.specs.Example.{example_nodes, example, states_plan, ExampleFits};
 
 use cell_rings::{Both, Can, Cell, Gain, Mass, SmallGain, SmallMass};
@@ -10,9 +12,8 @@ use eliminate::{Limits, release, run_plan, sum_tables};
 use factor_core::{Strip, Workspace};
 use maid_model::{Diagram, Profile};
 use sample_diagrams::{chance, decision, sample_diagram, utility};
-use size_precheck::make_plan;
+use size_precheck::{Plan, make_plan};
 use std::alloc::{AllocError, Global};
-use std::process::Abort;
 use std::test::Fail;
 
 /// A hidden node of weights 1 and 2, a signal of it, a decision that sees the signal, and a utility of the hidden node
@@ -29,16 +30,45 @@ fn make_example(alloc: Global) -> Result<Diagram, AllocError>
     sample_diagram(alloc, &nodes, 1, 0)
 }
 
-/// What the plan gives under uniform rules in a workspace of exactly its cells: the second of two runs, with a release
-/// between them.
-fn run_twice<C: Cell>(
-    rt: &impl Abort,
+/// Whether the plan gives these cells in a workspace of exactly as many cells as it counts: in the second of two runs,
+/// with a release between them.
+fn runs_twice<C: Cell + PartialEq>(
+    alloc: Global,
+    diagram: &Diagram,
+    profile: &Profile,
+    plan: &Plan,
+    cells: usize,
+    want: &[C],
+) -> Result<bool, AllocError>
+    requires asked { CanBePlanned diagram.now.nodes plan.now.plan }
+    requires made { IsMade diagram.now.nodes plan.now.plan plan.now }
+    requires profile { IsProfile diagram.now.nodes profile.now }
+    requires fits { 2 * plan_total diagram.now.nodes profile.now plan.now.plan ≤ C.ring.most }
+    requires few { cells ≤ MOST_PLAN_CELLS }
+{
+    if plan.size().cells != cells as u128 {
+        return Ok(false);
+    }
+    let mut work = Workspace::<C>::reserve(alloc, cells)?;
+    run_plan(&mut work, plan, diagram, profile);
+    release(&mut work);
+    let slot = run_plan(&mut work, plan, diagram, profile);
+    let strip = Strip {
+        start: slot.start,
+        len: slot.len,
+    };
+    Ok(work.strip(&strip) == want)
+}
+
+/// Whether so planned the example gives these cells under uniform rules.
+fn gives<C: Cell + PartialEq>(
     alloc: Global,
     keep: &[usize],
     without: Option<usize>,
     utility: Option<usize>,
     cells: usize,
-) -> Result<Vec<C>, AllocError>
+    want: &[C],
+) -> Result<bool, AllocError>
     requires asked { CanBePlanned example_nodes (plan_of keep.now without utility) }
     requires fits { ExampleFits C.ring.most (plan_of keep.now without utility) }
     requires few { cells ≤ MOST_PLAN_CELLS }
@@ -46,22 +76,17 @@ fn run_twice<C: Cell>(
     let diagram = make_example(alloc)?;
     let profile = Profile::uniform(alloc, &diagram)?;
     let plan = make_plan(alloc, &diagram, keep, without, utility)?;
-    let size = plan.size();
-    assert!(rt; size.cells == cells as u128);
-    let mut work = Workspace::<C>::reserve(alloc, cells)?;
-    run_plan(&mut work, &plan, &diagram, &profile);
-    release(&mut work);
-    let slot = run_plan(&mut work, &plan, &diagram, &profile);
-    let strip = Strip {
-        start: slot.start,
-        len: slot.len,
-    };
-    Vec::from_slice(alloc, work.strip(&strip))
+    runs_twice(alloc, &diagram, &profile, &plan, cells, want)
 }
 
-/// What the tables of the hidden node, the signal and the utility give under uniform rules, with the hidden node summed
-/// out; nothing where that passes the limits.
-fn sum_of_all<C: Cell>(alloc: Global, cells: usize, work: u64) -> Result<Vec<C>, AllocError>
+/// Whether the tables of the hidden node, the signal and the utility give these cells under uniform rules, with the
+/// hidden node summed out; none where that passes the limits.
+fn sums_to<C: Cell + PartialEq>(
+    alloc: Global,
+    cells: usize,
+    work: u64,
+    want: &[C],
+) -> Result<bool, AllocError>
     requires fits { ExampleFits C.ring.most states_plan }
     requires few { cells ≤ MOST_PLAN_CELLS }
 {
@@ -75,9 +100,9 @@ fn sum_of_all<C: Cell>(alloc: Global, cells: usize, work: u64) -> Result<Vec<C>,
                 start: slot.start,
                 len: slot.len,
             };
-            Vec::from_slice(alloc, space.strip(&strip))
+            Ok(space.strip(&strip) == want)
         }
-        None => Ok(Vec::new(alloc)),
+        None => Ok(want.is_empty()),
     }
 }
 
@@ -85,12 +110,9 @@ fn sum_of_all<C: Cell>(alloc: Global, cells: usize, work: u64) -> Result<Vec<C>,
 #[test]
 fn rows_of_a_decision(rt: HostRuntime) -> Result<(), Fail> {
     let alloc = rt.alloc();
-    let masses = run_twice::<Mass>(&rt, alloc, &[1], None, None, 10)?;
-    assert_eq!(rt; masses.as_slice(), [Mass(7), Mass(5)].as_slice());
-    let masses = run_twice::<SmallMass>(&rt, alloc, &[1], None, None, 10)?;
-    assert_eq!(rt; masses.as_slice(), [SmallMass(7), SmallMass(5)].as_slice());
-    let cans = run_twice::<Can>(&rt, alloc, &[1], None, None, 10)?;
-    assert_eq!(rt; cans.as_slice(), [Can(true), Can(true)].as_slice());
+    assert!(rt; gives(alloc, &[1], None, None, 10, &[Mass(7), Mass(5)])?);
+    assert!(rt; gives(alloc, &[1], None, None, 10, &[SmallMass(7), SmallMass(5)])?);
+    assert!(rt; gives(alloc, &[1], None, None, 10, &[Can(true), Can(true)])?);
     Ok(())
 }
 
@@ -99,16 +121,10 @@ fn rows_of_a_decision(rt: HostRuntime) -> Result<(), Fail> {
 #[test]
 fn states_of_a_decision(rt: HostRuntime) -> Result<(), Fail> {
     let alloc = rt.alloc();
-    let gains = run_twice::<Gain>(&rt, alloc, &[2, 1], Some(2), Some(3), 18)?;
-    assert_eq!(rt;
-        gains.as_slice(),
-        [Gain(8), Gain(20), Gain(0), Gain(20)].as_slice()
-    );
-    let gains = run_twice::<SmallGain>(&rt, alloc, &[2, 1], Some(2), Some(3), 18)?;
-    assert_eq!(rt;
-        gains.as_slice(),
-        [SmallGain(8), SmallGain(20), SmallGain(0), SmallGain(20)].as_slice()
-    );
+    let gains = [Gain(8), Gain(20), Gain(0), Gain(20)];
+    assert!(rt; gives(alloc, &[2, 1], Some(2), Some(3), 18, &gains)?);
+    let gains = [SmallGain(8), SmallGain(20), SmallGain(0), SmallGain(20)];
+    assert!(rt; gives(alloc, &[2, 1], Some(2), Some(3), 18, &gains)?);
     Ok(())
 }
 
@@ -116,10 +132,8 @@ fn states_of_a_decision(rt: HostRuntime) -> Result<(), Fail> {
 #[test]
 fn worth_of_a_utility(rt: HostRuntime) -> Result<(), Fail> {
     let alloc = rt.alloc();
-    let both = run_twice::<Both>(&rt, alloc, &[], None, Some(3), 22)?;
-    assert_eq!(rt; both.as_slice(), [Both { m: 24, g: 48 }].as_slice());
-    let none = run_twice::<Both>(&rt, alloc, &[], None, None, 1)?;
-    assert_eq!(rt; none.as_slice(), [Both { m: 1, g: 0 }].as_slice());
+    assert!(rt; gives(alloc, &[], None, Some(3), 22, &[Both { m: 24, g: 48 }])?);
+    assert!(rt; gives(alloc, &[], None, None, 1, &[Both { m: 1, g: 0 }])?);
     Ok(())
 }
 
@@ -129,20 +143,15 @@ fn worth_of_a_utility(rt: HostRuntime) -> Result<(), Fail> {
 #[test]
 fn masses_and_gains_of_a_decision(rt: HostRuntime) -> Result<(), Fail> {
     let alloc = rt.alloc();
-    let both = sum_of_all::<Both>(alloc, 18, 28)?;
-    assert_eq!(rt;
-        both.as_slice(),
-        [
-            Both { m: 7, g: 8 },
-            Both { m: 7, g: 20 },
-            Both { m: 5, g: 0 },
-            Both { m: 5, g: 20 },
-        ]
-        .as_slice()
-    );
-    let few_cells = sum_of_all::<Both>(alloc, 17, 28)?;
-    assert_eq!(rt; few_cells.len(), 0);
-    let little_work = sum_of_all::<Both>(alloc, 18, 27)?;
-    assert_eq!(rt; little_work.len(), 0);
+    let both = [
+        Both { m: 7, g: 8 },
+        Both { m: 7, g: 20 },
+        Both { m: 5, g: 0 },
+        Both { m: 5, g: 20 },
+    ];
+    assert!(rt; sums_to(alloc, 18, 28, &both)?);
+    let none: [Both; 0] = [];
+    assert!(rt; sums_to(alloc, 17, 28, &none)?, "few cells");
+    assert!(rt; sums_to(alloc, 18, 27, &none)?, "little work");
     Ok(())
 }

@@ -19,7 +19,8 @@ const COIN: &str =
 const THIRDS: &str =
     "potential (B | A) { data = ((0.3 0.7) (0.333333 0.666667) (1 0)); } node A { states = (\"x\" \"y\" \"z\"); } node B { states = (\"u\" \"v\"); } potential (A) { data = (0.333333 0.333333 0.333333); }";
 
-fn built(alloc: Global, text: &str) -> Result<(Diagram, Names), Fail>
+// The diagram that the text stands for, and its names.
+pub(crate) fn built(alloc: Global, text: &str) -> Result<(Diagram, Names), Fail>
     ensures { IfOk result (λ built. NamesFit built.0 built.1) }
 {
     let text = text.as_bytes();
@@ -55,39 +56,56 @@ fn has_node(diagram: &Diagram, v: usize, parents: &[usize], cells: &[i128]) -> b
     node.parents.as_slice() == parents && node.cells.as_slice() == cells
 }
 
+// Whether they are the diagram of `STEER` and its names.
+fn is_steer(diagram: &Diagram, names: &Names) -> bool
+    requires { NamesFit diagram.now names.now }
+{
+    diagram.count() == 3
+        && diagram.node(1).kind == Kind::Decision
+        && has_node(diagram, 2, &[0, 1], &[3, 0, 0, 1])
+        && names.name(0) == b"X".as_slice()
+        && names.find_agent(b"agent") == Some(0)
+}
+
+// Whether they are the diagram of `COIN` and its names.
+fn is_coin(diagram: &Diagram, names: &Names) -> bool {
+    diagram.count() == 2
+        && diagram.decimals() == 2
+        && has_node(diagram, 1, &[0], &[50, -125])
+        && names.find_agent(b"A") == Some(0)
+}
+
+// Whether it is the diagram of `THIRDS`.
+fn is_thirds(diagram: &Diagram) -> bool {
+    let cells = [300_000, 700_000, 333_333, 666_667, 1_000_000, 0];
+    diagram.count() == 2
+        && has_node(diagram, 0, &[], &[1, 1, 1])
+        && has_node(diagram, 1, &[0], &cells)
+}
+
 #[test]
 fn a_decision_has_its_place(rt: HostRuntime) -> Result<(), Fail> {
-    let (steer, names) = built(rt.alloc(), STEER)?;
-    assert_eq!(rt; steer.count(), 3);
-    assert_eq!(rt; steer.node(1).kind, Kind::Decision);
-    assert!(rt; has_node(&steer, 2, &[0, 1], &[3, 0, 0, 1]));
-    assert_eq!(rt; names.name(0), b"X".as_slice());
-    assert_eq!(rt; names.find_agent(b"agent"), Some(0));
+    let (diagram, names) = built(rt.alloc(), STEER)?;
+    assert!(rt; is_steer(&diagram, &names));
     Ok(())
 }
 
 #[test]
 fn values_have_their_decimals(rt: HostRuntime) -> Result<(), Fail> {
-    let (coin, names) = built(rt.alloc(), COIN)?;
-    assert_eq!(rt; coin.count(), 2);
-    assert_eq!(rt; coin.decimals(), 2);
-    assert!(rt; has_node(&coin, 1, &[0], &[50, -125]));
-    assert_eq!(rt; names.find_agent(b"A"), Some(0));
+    let (diagram, names) = built(rt.alloc(), COIN)?;
+    assert!(rt; is_coin(&diagram, &names));
     Ok(())
 }
 
 #[test]
 fn rows_are_in_proportion(rt: HostRuntime) -> Result<(), Fail> {
-    let (thirds, _) = built(rt.alloc(), THIRDS)?;
-    assert_eq!(rt; thirds.count(), 2);
-    assert!(rt; has_node(&thirds, 0, &[], &[1, 1, 1]));
-    let cells = [300_000, 700_000, 333_333, 666_667, 1_000_000, 0];
-    assert!(rt; has_node(&thirds, 1, &[0], &cells));
+    let (diagram, _) = built(rt.alloc(), THIRDS)?;
+    assert!(rt; is_thirds(&diagram));
     Ok(())
 }
 
 // Each row has a text, and its fault.
-const FAULTS: [(&str, &str); 7] = [
+const FAULTS: &[(&str, &str)] = &[
     (
         "node A { states = (\"x\" \"y\"); } potential (A) { data = (0 0); }",
         "ZeroRow at 55",
@@ -120,7 +138,7 @@ const FAULTS: [(&str, &str); 7] = [
 
 #[test]
 fn texts_have_their_fault(rt: HostRuntime) -> Result<(), Fail> {
-    for (text, fault) in FAULTS {
+    for &(text, fault) in FAULTS {
         assert!(rt; has_fault(rt.alloc(), text, fault)?, "{text}");
     }
     Ok(())

@@ -1,8 +1,6 @@
 //! Tests of `net_print`: small diagrams, printed.
 
-use net_build::build;
-use net_lexer::lex;
-use net_parser::parse;
+use crate::building::built;
 use net_print::print;
 use std::alloc::Global;
 use std::test::Fail;
@@ -34,23 +32,24 @@ potential (D) { }
 potential (V | C) { data = (-30 10); }
 ";
 
+// Each row has a text, and the text that its diagram is printed as.
+const ROWS: &[(&str, &str)] = &[
+    (THIRDS, PRINTED_THIRDS),
+    (PRINTED_THIRDS, PRINTED_THIRDS),
+    (MIXED, PRINTED_MIXED),
+    (PRINTED_MIXED, PRINTED_MIXED),
+];
+
 // The text of the diagram that the text stands for.
-fn printed(alloc: Global, text: &[u8]) -> Result<Vec<u8>, Fail> {
-    let tokens = lex(alloc, text)?;
-    let syntax = parse(alloc, text, &tokens)?;
-    let (diagram, names) = build(alloc, text, &tokens, &syntax)?;
+fn printed(alloc: Global, text: &str) -> Result<Vec<u8>, Fail> {
+    let (diagram, names) = built(alloc, text)?;
     Ok(print(alloc, &diagram, &names)?)
 }
 
 #[test]
 fn texts_are_printed(rt: HostRuntime) -> Result<(), Fail> {
-    for (text, want) in [
-        (THIRDS, PRINTED_THIRDS),
-        (PRINTED_THIRDS, PRINTED_THIRDS),
-        (MIXED, PRINTED_MIXED),
-        (PRINTED_MIXED, PRINTED_MIXED),
-    ] {
-        let out = printed(rt.alloc(), text.as_bytes())?;
+    for &(text, want) in ROWS {
+        let out = printed(rt.alloc(), text)?;
         assert_eq!(rt; out.as_slice(), want.as_bytes());
     }
     Ok(())

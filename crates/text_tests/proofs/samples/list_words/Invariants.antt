@@ -1,4 +1,4 @@
-use Rattle.std.proofs.Common.{◌≡◌, List, ℕ, map, take}
+use Rattle.std.proofs.Common.{◌≡◌, map, take}
 use Rattle.text_tests.proofs.samples.list_words.Given as goal
 
 abbrev pub invariant-loop-word : goal.invariant-loop-word

@@ -1,6 +1,0 @@
-use Rattle.std.proofs.Common.{refl}
-use Rattle.maid_examples.proofs.Rooms.{of_uniform}
-use Rattle.maid_examples.proofs.trials.team_uniform.Goals as goal
-
-pub new-requires : goal.new-requires
-new-requires c = of_uniform c.in_ok-diagram.ensures c.in_ok-profile.ensures.rules c.shared_result.ensures.sound.of_uniform refl refl
