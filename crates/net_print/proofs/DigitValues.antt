@@ -9,7 +9,7 @@ use Rattle.std.proofs.lemmas.List.Sums.{fold-append}
 use Rattle.net_lexer.specs.Bytes.{is_digit}
 use Rattle.net_lexer.specs.Numerals.{without_sign}
 use Rattle.weight_scale.specs.Numeral.{front_digits, behind_digits, point_digits, behind_point, whole_digits, decimal_digits, exponent_of, exponent_size, is_minus, number_behind, number_of, signed, numerator, denominator}
-use Rattle.net_print.proofs.Forms.{AreDigits, IsPlainDecimal, Whole, plain_unsigned}
+use Rattle.net_print.proofs.Forms.{AreDigits, Whole, plain_unsigned}
 use Rattle.net_print.proofs.Forms as forms
 
 pub number_behind-append : (n : ℕ) (xs ys : List ℕ) → number_behind n (xs ++ ys) ≡ number_behind (number_behind n xs) ys

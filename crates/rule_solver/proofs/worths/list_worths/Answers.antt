@@ -12,7 +12,7 @@ use Rattle.rule_solver.proofs.ChoiceLemmas.{one_longer, worths-push}
 use Rattle.rule_solver.proofs.WorthLemmas.{utilities_more, worth_place}
 use Rattle.rule_solver.specs.Rooms.{IsEmptyWithin}
 use Rattle.rule_solver.proofs.worths.list_worths.Goals as goal
-use Rattle.rule_solver.proofs.worths.list_worths.Goals.{In-Utility, in-Utility+in_ok-push-in-Utility, in-Chance+in_ok-push-in-Chance}
+use Rattle.rule_solver.proofs.worths.list_worths.Goals.{in-Utility+in_ok-push-in-Utility, in-Chance+in_ok-push-in-Chance}
 
 -- the plan of this utility is there
 pub bounds-plans-place : goal.bounds-plans-place

@@ -5,7 +5,7 @@ use Rattle.maid_model.specs.declared.diagrams.Kind.{Kind}
 use Rattle.maid_model.specs.Views.{NodeView}
 use Rattle.maid_model.specs.Tables.{table_by}
 use Rattle.maid_model.specs.Nodes.{node_at}
-use Rattle.std.proofs.Common.{◌≡◌, ◌∙◌, ◌<◌, ◌==◌, ℕ, ℤ, List, ap, cond, pos, refl, slice_index, subst, sym}
+use Rattle.std.proofs.Common.{◌≡◌, ◌∙◌, ◌<◌, ℕ, ℤ, List, ap, cond, pos, refl, slice_index, subst, sym}
 use Rattle.tree_checker.proofs.factors.factor_of.Goals as goal
 
 -- the factor of a node that is not left out, by its kind

@@ -1,4 +1,4 @@
-use Rattle.std.proofs.Common.{rules, ◌≡◌, ◌∙◌, [], subst, ap, refl, sym, pos, ◌+ℤ◌, slice_index, slice_index_or, to_z, of_z}
+use Rattle.std.proofs.Common.{◌≡◌, ◌∙◌, [], subst, ap, refl, sym, pos, ◌+ℤ◌, slice_index, slice_index_or, to_z, of_z}
 use Rattle.std.proofs.lemmas.Int.{to_z-of_z}
 use Rattle.std.specs.Int.{w128}
 use Rattle.maid_model.specs.Worlds.{world_of}

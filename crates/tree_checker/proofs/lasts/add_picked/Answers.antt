@@ -1,4 +1,4 @@
-use Rattle.std.proofs.Common.{rules, ◌≡◌, ◌∙◌, ap, length, refl, subst, sym, pos, ◌*ℤ◌, ◌+ℤ◌, slice_index, slice_index_or, FitsSigned}
+use Rattle.std.proofs.Common.{rules, ◌∙◌, ap, length, refl, subst, sym, pos, ◌*ℤ◌, ◌+ℤ◌, slice_index, slice_index_or, FitsSigned}
 use Rattle.std.proofs.lemmas.List.{length-set}
 use Rattle.std.specs.Int.{w128}
 use Rattle.tree_checker.specs.Walks.{GainFits}

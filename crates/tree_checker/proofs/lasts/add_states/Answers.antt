@@ -1,4 +1,4 @@
-use Rattle.std.proofs.Common.{length, rules, ◌≡◌, ◌∙◌, ◌+◌, ◌*◌, ◌<◌, ◌≤◌, [], ◌∷◌, subst, ap, sym, pos, ◌+ℤ◌, slice_index, slice_index_or, to_z, of_z, arith}
+use Rattle.std.proofs.Common.{length, ◌≡◌, ◌∙◌, ◌+◌, ◌*◌, ◌<◌, ◌≤◌, [], ◌∷◌, subst, ap, sym, pos, ◌+ℤ◌, slice_index, slice_index_or, to_z, of_z, arith}
 use Rattle.std.proofs.lemmas.Int.{to_z-of_z}
 use Rattle.std.specs.Int.{w128}
 use Rattle.maid_model.specs.Nodes.{rows_of, states_of}
