@@ -1,13 +1,13 @@
 #!/usr/bin/env python3
 """Runs the gate of a checkout and tells where its processor time goes, crate by crate.
 
-usage: gate.py [TOP]
+usage: gate.py [TOP [CRATE..]]
 
-The gate (`rt ci`) runs at TOP, or where this script stands. While it runs, the processor times of all
-checks are read twice a second, and each counts for its crate as proof, as tests or as must-fail edits;
-what a check does in its last half second is lost. The gate's own lines go to standard output, and
-behind them a table in minutes of processor time, the most expensive crate first. The status is the
-gate's.
+The gate (`rt ci`) runs at TOP, or where this script stands; where crates are named, only they and those
+below them are tried, so that it may be timed in parts. While it runs, the processor times of all checks
+are read twice a second, and each counts for its crate as proof, as tests or as must-fail edits; what a
+check does in its last half second is lost. The gate's own lines go to standard output, and behind them a
+table in minutes of processor time, the most expensive crate first. The status is the gate's.
 """
 
 import os
@@ -105,7 +105,7 @@ def print_row(name, parts):
 def main():
     top = sys.argv[1] if len(sys.argv) > 1 else os.path.join(os.path.dirname(__file__), "..")
     found = {}
-    gate = subprocess.Popen(["rt", "ci"], cwd=top)
+    gate = subprocess.Popen(["rt", "ci", *sys.argv[2:]], cwd=top)
     watch = threading.Thread(target=sample, args=(gate, found))
     watch.start()
     status = gate.wait()

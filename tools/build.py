@@ -3,9 +3,10 @@
 
 usage: build.py TOP
 
-Each crate below the program is proved once those that it stands on are, as many side by side as there are processors.
-What an earlier run proved is kept by the toolchain in crates/*/out, so that only what changed is proved again. The
-status is 0 where the program stands, else 1 after one line that says what failed and where the log is.
+Each crate below the program is proved once those that it stands on are. The toolchain proves a crate on all processors
+and has those wait for each other that share one below, so that starting several at a time fills the gaps. What an
+earlier run proved is kept by the toolchain in crates/*/out, so that only what changed is proved again. The status is 0
+where the program stands, else 1 after one line that says what failed and where the log is.
 """
 import os
 import re
