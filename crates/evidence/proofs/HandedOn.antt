@@ -4,6 +4,7 @@ use Rattle.std.proofs.lemmas.Result.{err_from_is_err_and}
 use Rattle.std.specs.Result.{IsErr, IsErrAnd}
 use Rattle.first_fault.specs.Passes.{Pass, ◌▸◌}
 use Rattle.first_fault.specs.Answers.{IsFoundIfAny, Passes}
+use Rattle.first_fault.proofs.HandedOn.{hands_on}
 use Rattle.first_fault.proofs.Leading.{refused_first}
 use Rattle.rule_solver.specs.Faults as solver
 use Rattle.rule_solver.specs.declared.faults.SolveFault.{SolveFault}
@@ -13,12 +14,9 @@ use Rattle.evidence.specs.declared.faults.GivenFault.TheVariants as faults
 use Rattle.evidence.specs.Faults.{FaultView, given_fault, unsolved}
 use Rattle.evidence.specs.Unsolved.{as_unsolved, is_unsolved}
 
-pub same_fault : {A E Fault : Type 0} (view : E → Option Fault) (P : Pass Fault) (before : E) (r : Result A E) → IsFoundIfAny P (view before) → IsErr r × IsErrAnd r (λ y. y ≡ before) → Passes view P r
-same_fault view P before r h e = let p = err_from_is_err_and r e.1 in rw (p.1, p.2) h
-
 -- the rows behind it aren't looked at
 pub first_fault : {A E Fault : Type 0} (view : E → Option Fault) (P Q : Pass Fault) (before : E) (r : Result A E) → IsFoundIfAny P (view before) → IsErr r × IsErrAnd r (λ y. y ≡ before) → Passes view (P ▸ Q) r
-first_fault view P Q before r h e = same_fault view (P ▸ Q) before r (refused_first P Q (view before) h) e
+first_fault view P Q before r h e = hands_on view (P ▸ Q) r before e (refused_first P Q (view before) h)
 
 -- the solver's first fault is the first under evidence
 pub solver_fault : {A : Type 0} (P : Pass solver.FaultView) (Q : Pass FaultView) (before : SolveFault) (r : Result A GivenFault) → IsFoundIfAny P (solver.solve_fault before) → IsErr r × IsErrAnd r (is_unsolved before) → Passes given_fault (unsolved P ▸ Q) r
@@ -29,7 +27,7 @@ solver_fault P Q before r h e = let p = err_from_is_err_and r e.1 in rw (p.1, p.
     first (Some f) h = inl h
 
 pub out_of_memory : {A : Type 0} (P : Pass FaultView) (r : Result A GivenFault) → IsErr r × IsErrAnd r (λ y. y ≡ faults.NoMemory) → Passes given_fault P r
-out_of_memory P r e = same_fault given_fault P faults.NoMemory r tt e
+out_of_memory P r e = hands_on given_fault P r faults.NoMemory e tt
 
 pub solver_out_of_memory : {A : Type 0} (P : Pass solver.FaultView) (r : Result A SolveFault) → IsErr r × IsErrAnd r (λ y. y ≡ solver_faults.NoMemory) → Passes solver.solve_fault P r
-solver_out_of_memory P r e = same_fault solver.solve_fault P solver_faults.NoMemory r tt e
+solver_out_of_memory P r e = hands_on solver.solve_fault P r solver_faults.NoMemory e tt

@@ -1,8 +1,7 @@
--- Steps of linking: the exits of a `?`, lists of rows one by one, and names among those before.
+-- Steps of linking: lists of rows one by one, and names among those before.
 use Rattle.std.proofs.Common.{◌≡◌, ◌⊎◌, inl, inr, ℕ, zero, suc, ◌+◌, ◌-◌, ◌<◌, ◌≤◌, Bool, true, false, not, cond, ◌||◌, List, [], ◌∷◌, ◌++◌, length, get_or, map, take, drop, Contains, None, Result, refl, ap, sym, subst, ◌∙◌, arith}
 use Rattle.std.proofs.lemmas.Bool.{false≢true}
 use Rattle.std.proofs.lemmas.List.{drop_all, map-append}
-use Rattle.std.proofs.lemmas.Result.{err_from_is_err_and}
 use Rattle.std.proofs.lemmas.Slice.Eq.{bytes_eq-Decides}
 use Rattle.std.specs.List.{list_any, range_with_len}
 use Rattle.std.specs.Result.{IsErr, IsErrAnd}
@@ -16,12 +15,9 @@ use Rattle.first_fault.specs.Passes.{Pass, ◌▸◌, each, each_after}
 use Rattle.first_fault.specs.Answers.{IsFaultOrNoMemory, Passes}
 use Rattle.net_build.specs.Passes.{Found, build_fault}
 use Rattle.net_build.proofs.AttributeLemmas.{contains_later, contains_cases, contains_none}
+use Rattle.first_fault.proofs.HandedOn.{hands_on}
 use Rattle.first_fault.proofs.Leading.{Leads, leads_on, leads_end, leads_refused, refused_first, refused_later, drop_item, take_item}
 use Rattle.net_build.proofs.PlaceLemmas.{bytes_same}
-
--- what a `?` hands on is refused as it was
-pub hands_on : {A : Type 0} (P : Pass Found) (r : Result A BuildFault) (fault : BuildFault) → IsErr r × IsErrAnd r (λ y. y ≡ fault) → IsFaultOrNoMemory build_fault P fault → Passes build_fault P r
-hands_on P r fault e h = let p = err_from_is_err_and r e.1 in rw (p.1, p.2) h
 
 -- what the items from place i on find, those before having found nothing
 abbrev pub Behind : {X : Type 0} → (List X → X → Pass Found) → List X → ℕ → Pass Found
@@ -70,18 +66,18 @@ place_within (x ∷ names) name h = by_test (bytes_eq x name) refl (contains_cas
 -- the rows of a name behind the bar, where the first, the second or the third finds a fault
 pub condition_unknown : {A : Type 0} (text : List ℕ) (names : List (List ℕ)) (heads : List Head) (earlier : List Token) (name : Token) (r : Result A BuildFault) (fault : BuildFault) → IsErr r × IsErrAnd r (λ y. y ≡ fault) → IsFaultOrNoMemory build_fault (unknown_row text names name) fault → Passes build_fault (condition_steps text names heads earlier name) r
 condition_unknown text names heads earlier name r fault e h =
-    hands_on (condition_steps text names heads earlier name) r fault e
+    hands_on build_fault (condition_steps text names heads earlier name) r fault e
     (refused_first (unknown_row text names name) (repeat_row text earlier name ▸ utility_row (kind_at heads (node_named text names name)) name) (build_fault fault) h)
 
 pub condition_repeat : {A : Type 0} (text : List ℕ) (names : List (List ℕ)) (heads : List Head) (earlier : List Token) (name : Token) (r : Result A BuildFault) (fault : BuildFault) → IsErr r × IsErrAnd r (λ y. y ≡ fault) → unknown_row text names name None → IsFaultOrNoMemory build_fault (repeat_row text earlier name) fault → Passes build_fault (condition_steps text names heads earlier name) r
 condition_repeat text names heads earlier name r fault e known h =
-    hands_on (condition_steps text names heads earlier name) r fault e
+    hands_on build_fault (condition_steps text names heads earlier name) r fault e
     (refused_later (unknown_row text names name) (repeat_row text earlier name ▸ utility_row (kind_at heads (node_named text names name)) name) (build_fault fault) known
     (refused_first (repeat_row text earlier name) (utility_row (kind_at heads (node_named text names name)) name) (build_fault fault) h))
 
 pub condition_utility : {A : Type 0} (text : List ℕ) (names : List (List ℕ)) (heads : List Head) (earlier : List Token) (name : Token) (v : ℕ) (r : Result A BuildFault) (fault : BuildFault) → IsErr r × IsErrAnd r (λ y. y ≡ fault) → unknown_row text names name None → repeat_row text earlier name None → v ≡ node_named text names name → IsFaultOrNoMemory build_fault (utility_row (kind_at heads v) name) fault → Passes build_fault (condition_steps text names heads earlier name) r
 condition_utility text names heads earlier name v r fault e known new is h =
-    hands_on (condition_steps text names heads earlier name) r fault e
+    hands_on build_fault (condition_steps text names heads earlier name) r fault e
     (refused_later (unknown_row text names name) (repeat_row text earlier name ▸ utility_row (kind_at heads (node_named text names name)) name) (build_fault fault) known
     (refused_later (repeat_row text earlier name) (utility_row (kind_at heads (node_named text names name)) name) (build_fault fault) new
     (subst (λ (w : ℕ). IsFaultOrNoMemory build_fault (utility_row (kind_at heads w) name) fault) is h)))

@@ -7,4 +7,3 @@ mod Owners
 mod Spent
 mod OneOutcome
 mod Kept
-mod Refused

@@ -12,4 +12,3 @@ pub mod Ready
 pub mod Assembling
 pub mod Unmoved
 pub mod Standing
-pub mod Refused

@@ -5,7 +5,8 @@ use Rattle.rule_solver.specs.Rooms.{AreReady}
 use Rattle.rule_solver.specs.Faults.{bound_pass, solve_fault}
 use Rattle.first_fault.specs.Passes.{◌▸◌}
 use Rattle.first_fault.proofs.Leading.{passes_on}
-use Rattle.evidence.proofs.HandedOn.{first_fault, same_fault, solver_out_of_memory}
+use Rattle.first_fault.proofs.HandedOn.{hands_on}
+use Rattle.evidence.proofs.HandedOn.{first_fault, solver_out_of_memory}
 use Rattle.std.proofs.lemmas.Result.{IfOk-from_err}
 use Rattle.evidence.proofs.limits.answer_ordered.Goals as goal
 
@@ -61,7 +62,7 @@ keep_sizes-requires-clause-kind c = c.requires.kind
 pub returns-in_err-plans-clause-rows : goal.returns-in_err-plans-clause-rows
 returns-in_err-plans-clause-rows c =
     passes_on solve_fault (bound_pass c.args.diagram.now) (further_pass c.args.diagram.now c.args.node ▸ given_size_pass c.args.diagram.now c.args.node) _ c.in_ok-keep_bound.ensures.rows
-    (passes_on solve_fault (further_pass c.args.diagram.now c.args.node) (given_size_pass c.args.diagram.now c.args.node) _ c.in_ok-keep_bound_given.ensures (same_fault solve_fault (given_size_pass c.args.diagram.now c.args.node) _ _ c.in_err-plans.ensures.rows c.from_residual-in_err-plans.ensures))
+    (passes_on solve_fault (further_pass c.args.diagram.now c.args.node) (given_size_pass c.args.diagram.now c.args.node) _ c.in_ok-keep_bound_given.ensures (hands_on solve_fault (given_size_pass c.args.diagram.now c.args.node) _ _ c.from_residual-in_err-plans.ensures c.in_err-plans.ensures.rows))
 
 pub returns-in_err-plans-clause-diagram : goal.returns-in_err-plans-clause-diagram
 returns-in_err-plans-clause-diagram c = IfOk-from_err _ _ c.from_residual-in_err-plans.ensures.0

@@ -3,12 +3,14 @@ use Rattle.std.proofs.Common.{get_or}
 use Rattle.std.proofs.lemmas.List.{get_or_default}
 use Rattle.net_build.specs.Blocks.{no_token}
 use Rattle.net_build.specs.Linking.{node_named, condition_steps, conditions_steps}
-use Rattle.net_build.proofs.LinkLemmas.{hands_on, behind_on, behind_refused, map_more}
+use Rattle.first_fault.proofs.HandedOn.{hands_on}
+use Rattle.net_build.specs.Passes.{build_fault}
+use Rattle.net_build.proofs.LinkLemmas.{behind_on, behind_refused, map_more}
 use Rattle.net_build.proofs.conditions.read_conditions.Goals as goal
 
 pub returns-in_err-read_condition-clause-rows : goal.returns-in_err-read_condition-clause-rows
 returns-in_err-read_condition-clause-rows c =
-    hands_on (conditions_steps c.args.text.now c.args.names.now c.args.heads.now c.args.conditions.now) _ _ c.from_residual.ensures
+    hands_on build_fault (conditions_steps c.args.text.now c.args.names.now c.args.heads.now c.args.conditions.now) _ _ c.from_residual.ensures
     (behind_refused (condition_steps c.args.text.now c.args.names.now c.args.heads.now) c.args.conditions.now _ c.loop-place.place (get_or c.args.conditions.now c.loop-place.place no_token) _ c.loop-place-test.true (get_or_default _ _ _ _ c.loop-place-test.true) c.loop-place.invariant.lead c.in_err-read_condition.ensures.rows)
 
 pub loop-place-preserved : goal.loop-place-preserved

@@ -1,5 +1,5 @@
 -- A chance table's weights are its numbers'.
-use Rattle.net_build.proofs.LinkLemmas.{hands_on}
+use Rattle.first_fault.proofs.HandedOn.{hands_on}
 use Rattle.first_fault.proofs.Leading.{refused_first}
 use Rattle.net_parser.specs.Owned.{leaves}
 use Rattle.maid_model.specs.Nodes.{is_chance}
@@ -39,7 +39,7 @@ pub returns-in_err-decimals-clause-rows : goal.returns-in_err-decimals-clause-ro
 returns-in_err-decimals-clause-rows c =
     let numbers = number_rows c.args.text.now (c.args.rows * c.args.head.now.states) c.args.table.now in
     let weighed = only (is_chance c.args.head.now.kind) (weight_part c.args.text.now c.args.head.now.states c.args.rows c.args.table.now.name.start (leaves c.args.table.now.value)) in
-    hands_on (data_part c.args.text.now c.args.head.now.kind c.args.rows c.args.head.now.states c.args.table.now) _ _ c.from_residual.ensures (refused_first numbers weighed _ c.in_err-decimals.ensures.rows)
+    hands_on build_fault (data_part c.args.text.now c.args.head.now.kind c.args.rows c.args.head.now.states c.args.table.now) _ _ c.from_residual.ensures (refused_first numbers weighed _ c.in_err-decimals.ensures.rows)
 
 pub returns-in_err-decimals-clause-draft : goal.returns-in_err-decimals-clause-draft
 returns-in_err-decimals-clause-draft c = IfOk-from_err _ _ c.from_residual.ensures.0

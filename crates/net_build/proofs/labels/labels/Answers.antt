@@ -1,5 +1,5 @@
 -- One more string has its label.
-use Rattle.net_build.proofs.LinkLemmas.{hands_on}
+use Rattle.first_fault.proofs.HandedOn.{hands_on}
 use Rattle.net_build.specs.Passes.{build_fault}
 use Rattle.first_fault.specs.Passes.{each}
 use Rattle.net_lexer.specs.Token.{text_value}
@@ -42,7 +42,7 @@ label-requires-clause-string c = c.requires.strings c.loop-string.string-index n
 pub returns-in_err-label-clause-rows : goal.returns-in_err-label-clause-rows
 returns-in_err-label-clause-rows c =
     let rows = each (label_row c.args.text.now) c.args.strings.now in
-    hands_on rows _ _ c.from_residual-in_err-label.ensures
+    hands_on build_fault rows _ _ c.from_residual-in_err-label.ensures
     (each_refused_at (label_row c.args.text.now) c.args.strings.now rows c.loop-string.string-index no_token (build_fault c.in_err-label.field-0.0) c.loop-string-test.true c.loop-string.invariant.lead c.in_err-label.ensures.row)
 
 pub returns-in_err-label-clause-labels : goal.returns-in_err-label-clause-labels

@@ -6,7 +6,8 @@ use Rattle.first_fault.proofs.Leading.{refused_first, refused_later}
 use Rattle.net_build.specs.Linking.{borrowed_trees, missing_steps, graph_steps, size_steps, links_steps}
 use Rattle.net_build.specs.Lists.{numbers_of_lists}
 use Rattle.net_build.proofs.FitLemmas.{known_arcs, links_fit}
-use Rattle.net_build.proofs.LinkLemmas.{hands_on}
+use Rattle.first_fault.proofs.HandedOn.{hands_on}
+use Rattle.net_build.specs.Passes.{build_fault}
 use Rattle.net_build.proofs.links.check_links.Goals as goal
 
 pub check_tables-requires : goal.check_tables-requires
@@ -16,7 +17,7 @@ pub returns-in_err-check_tables-clause-rows : goal.returns-in_err-check_tables-c
 returns-in_err-check_tables-clause-rows c =
     let missing = missing_steps c.args.heads.now (borrowed_trees c.args.potentials.now) in
     let parents = numbers_of_lists c.args.parents.now in
-    hands_on (links_steps c.args.heads.now (borrowed_trees c.args.potentials.now) parents) _ _ c.from_residual.ensures
+    hands_on build_fault (links_steps c.args.heads.now (borrowed_trees c.args.potentials.now) parents) _ _ c.from_residual.ensures
     (refused_first missing (graph_steps c.args.heads.now parents ▸ size_steps c.args.heads.now parents) _ c.in_err-check_tables.ensures)
 
 pub returns-in_err-check_tables-clause-fit : goal.returns-in_err-check_tables-clause-fit
@@ -33,7 +34,7 @@ pub returns-in_err-check_graph-clause-rows : goal.returns-in_err-check_graph-cla
 returns-in_err-check_graph-clause-rows c =
     let missing = missing_steps c.args.heads.now (borrowed_trees c.args.potentials.now) in
     let parents = numbers_of_lists c.args.parents.now in
-    hands_on (links_steps c.args.heads.now (borrowed_trees c.args.potentials.now) parents) _ _ c.from_residual-in_err-check_graph.ensures
+    hands_on build_fault (links_steps c.args.heads.now (borrowed_trees c.args.potentials.now) parents) _ _ c.from_residual-in_err-check_graph.ensures
     (refused_later missing (graph_steps c.args.heads.now parents ▸ size_steps c.args.heads.now parents) _ c.in_ok-check_tables.ensures
     (refused_first (graph_steps c.args.heads.now parents) (size_steps c.args.heads.now parents) _ c.in_err-check_graph.ensures))
 
@@ -50,7 +51,7 @@ pub returns-in_err-check_sizes-clause-rows : goal.returns-in_err-check_sizes-cla
 returns-in_err-check_sizes-clause-rows c =
     let missing = missing_steps c.args.heads.now (borrowed_trees c.args.potentials.now) in
     let parents = numbers_of_lists c.args.parents.now in
-    hands_on (links_steps c.args.heads.now (borrowed_trees c.args.potentials.now) parents) _ _ c.from_residual-in_err-check_sizes.ensures
+    hands_on build_fault (links_steps c.args.heads.now (borrowed_trees c.args.potentials.now) parents) _ _ c.from_residual-in_err-check_sizes.ensures
     (refused_later missing (graph_steps c.args.heads.now parents ▸ size_steps c.args.heads.now parents) _ c.in_ok-check_tables.ensures
     (refused_later (graph_steps c.args.heads.now parents) (size_steps c.args.heads.now parents) _ c.in_ok-check_graph.ensures c.in_err-check_sizes.ensures.rows))
 

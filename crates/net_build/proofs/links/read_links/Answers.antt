@@ -7,10 +7,10 @@ use Rattle.net_build.specs.Blocks.{node_blocks, names_of, potentials}
 use Rattle.net_build.specs.Linking.{borrowed_trees, parents_in, AreParents}
 use Rattle.net_build.specs.Lists.{numbers_of_lists}
 use Rattle.first_fault.specs.Passes.{Pass, ◌▸◌}
-use Rattle.net_build.specs.Passes.{Found}
+use Rattle.net_build.specs.Passes.{build_fault, Found}
 use Rattle.net_build.specs.Stages.{NodeLists, LinkLists, head_of, AreLinks}
 use Rattle.net_build.specs.Table.{potential_pass, missing_pass, graph_pass, size_pass}
-use Rattle.net_build.proofs.LinkLemmas.{hands_on}
+use Rattle.first_fault.proofs.HandedOn.{hands_on}
 use Rattle.net_build.proofs.LinkPasses.{same_refused, potentials_into, rest_into, links_are, length_among, length_in, length_heads, names_differ}
 use Rattle.first_fault.proofs.Leading.{refused_first, refused_later}
 use Rattle.net_build.proofs.links.read_links.Goals as goal
@@ -24,7 +24,7 @@ pub returns-in_err-links-clause-rows : goal.returns-in_err-links-clause-rows
 returns-in_err-links-clause-rows c =
     let names : c.nodes.inside.names ≡ names_of c.args.text.now (node_blocks c.args.syntax.now) = ap (λ (n : NodeLists). n.names) c.nodes.view_is ∙ ap (λ (n : NodeLists). n.names) c.requires.nodes in
     let heads : c.as_slice-heads.result.now ≡ map (head_of c.args.text.now (node_blocks c.args.syntax.now)) (node_blocks c.args.syntax.now) = c.as_slice-heads.ensures.value ∙ ap (λ (n : NodeLists). n.heads) c.nodes.view_is ∙ ap (λ (n : NodeLists). n.heads) c.requires.nodes in
-    hands_on (potential_pass c.args.text.now c.args.syntax.now ▸ missing_pass c.args.text.now c.args.syntax.now ▸ graph_pass c.args.text.now c.args.syntax.now ▸ size_pass c.args.text.now c.args.syntax.now) _ _ c.from_residual.ensures
+    hands_on build_fault (potential_pass c.args.text.now c.args.syntax.now ▸ missing_pass c.args.text.now c.args.syntax.now ▸ graph_pass c.args.text.now c.args.syntax.now ▸ size_pass c.args.text.now c.args.syntax.now) _ _ c.from_residual.ensures
     (refused_first (potential_pass c.args.text.now c.args.syntax.now) (missing_pass c.args.text.now c.args.syntax.now ▸ graph_pass c.args.text.now c.args.syntax.now ▸ size_pass c.args.text.now c.args.syntax.now) _ (same_refused _ _ _ (potentials_into c.args.text.now c.args.syntax.now c.nodes.inside.names c.as_slice-heads.result.now names heads) c.in_err-links.ensures.rows))
 
 pub check_links-requires-clause-parents : goal.check_links-requires-clause-parents
@@ -52,7 +52,7 @@ returns-in_err-check_links-clause-rows c =
     let heads : c.as_slice-heads.result.now ≡ map (head_of c.args.text.now (node_blocks c.args.syntax.now)) (node_blocks c.args.syntax.now) = c.as_slice-heads.ensures.value ∙ ap (λ (n : NodeLists). n.heads) c.nodes.view_is ∙ ap (λ (n : NodeLists). n.heads) c.requires.nodes in
     let found : borrowed_trees c.deref-2.result.now ≡ c.in_ok-links.links.potentials = ap borrowed_trees c.deref-2.ensures.value ∙ ap (λ (l : LinkLists). l.potentials) c.links.view_is in
     let rows : numbers_of_lists c.deref.result.now ≡ c.in_ok-links.links.parents = ap numbers_of_lists c.deref.ensures.value ∙ ap (λ (l : LinkLists). l.parents) c.links.view_is in
-    hands_on (potential_pass c.args.text.now c.args.syntax.now ▸ missing_pass c.args.text.now c.args.syntax.now ▸ graph_pass c.args.text.now c.args.syntax.now ▸ size_pass c.args.text.now c.args.syntax.now) _ _ c.from_residual-in_err-check_links.ensures
+    hands_on build_fault (potential_pass c.args.text.now c.args.syntax.now ▸ missing_pass c.args.text.now c.args.syntax.now ▸ graph_pass c.args.text.now c.args.syntax.now ▸ size_pass c.args.text.now c.args.syntax.now) _ _ c.from_residual-in_err-check_links.ensures
     (refused_later (potential_pass c.args.text.now c.args.syntax.now) (missing_pass c.args.text.now c.args.syntax.now ▸ graph_pass c.args.text.now c.args.syntax.now ▸ size_pass c.args.text.now c.args.syntax.now) _ (subst (λ (P : Pass Found). P None) (potentials_into c.args.text.now c.args.syntax.now c.nodes.inside.names c.as_slice-heads.result.now names heads) c.in_ok-links.ensures.rows) (same_refused _ _ _ (rest_into c.args.text.now c.args.syntax.now c.nodes.inside.names c.as_slice-heads.result.now (borrowed_trees c.deref-2.result.now) (numbers_of_lists c.deref.result.now) names heads (found ∙ c.in_ok-links.ensures.potentials) (rows ∙ c.in_ok-links.ensures.parents ∙ ap (parents_in c.args.text.now c.nodes.inside.names) (sym found))) c.in_err-check_links.ensures.rows))
 
 pub returns-clause-rows : goal.returns-clause-rows

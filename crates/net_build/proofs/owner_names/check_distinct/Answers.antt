@@ -11,7 +11,8 @@ use Rattle.net_build.specs.Passes.{build_fault}
 use Rattle.net_build.specs.Table.{repeated_agent_row, seen_agent_row}
 use Rattle.net_lexer.specs.Token.{text_value}
 use Rattle.net_lexer.specs.declared.tokens.Token.{Token}
-use Rattle.net_build.proofs.LinkLemmas.{hands_on, behind_on, behind_refused, map_more, behind_end}
+use Rattle.first_fault.proofs.HandedOn.{hands_on}
+use Rattle.net_build.proofs.LinkLemmas.{behind_on, behind_refused, map_more, behind_end}
 use Rattle.net_build.proofs.owner_names.check_distinct.Goals as goal
 
 -- the name at a place is the value of the string there
@@ -28,7 +29,7 @@ returns-in_err-see_agent c =
     let agent = get_or agents i no_token in
     let h = c.loop-place-test.true in
     let name = c.deref.ensures.value ∙ name_at text agents c.args.names.now i c.index-names-place.result no_token c.requires h c.index-names-place.is in
-    hands_on (each_after (repeated_agent_row text) [] agents) _ _ c.from_residual.ensures
+    hands_on build_fault (each_after (repeated_agent_row text) [] agents) _ _ c.from_residual.ensures
     (behind_refused (repeated_agent_row text) agents _ i agent _ h (get_or_default agents i no_token agent h) c.loop-place.invariant.lead
     (subst (λ s. IsFaultOrNoMemory build_fault (seen_agent_row s agent.start (text_value text agent)) c.in_err-see_agent.field-0.0) c.loop-place.invariant.seen
     (subst (λ n. IsFaultOrNoMemory build_fault (seen_agent_row c.loop-place.seen agent.start n) c.in_err-see_agent.field-0.0) name c.in_err-see_agent.ensures.row)))

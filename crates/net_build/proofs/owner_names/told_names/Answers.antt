@@ -3,17 +3,18 @@ use Rattle.std.proofs.Common.{ap, sym, ◌∙◌}
 use Rattle.net_build.specs.Table.{agent_rows}
 use Rattle.net_parser.specs.Owned.{leaves}
 use Rattle.net_parser.specs.Trees.{AttributeTree}
-use Rattle.net_build.proofs.LinkLemmas.{hands_on}
+use Rattle.first_fault.proofs.HandedOn.{hands_on}
+use Rattle.net_build.specs.Passes.{build_fault}
 use Rattle.net_build.proofs.OwnerNames.{told_badly, told_twice, told_well, texts_told}
 use Rattle.net_build.proofs.owner_names.told_names.Goals as goal
 
 pub returns-in_err-names-clause-rows : goal.returns-in_err-names-clause-rows
-returns-in_err-names-clause-rows c = hands_on (agent_rows c.args.text.now _) _ _ c.from_residual.ensures (told_badly c.args.text.now c.args.agents.now _ c.in_err-names.ensures.rows)
+returns-in_err-names-clause-rows c = hands_on build_fault (agent_rows c.args.text.now _) _ _ c.from_residual.ensures (told_badly c.args.text.now c.args.agents.now _ c.in_err-names.ensures.rows)
 
 pub returns-in_err-check_distinct-clause-rows : goal.returns-in_err-check_distinct-clause-rows
 returns-in_err-check_distinct-clause-rows c =
     let tokens = c.deref.ensures.value ∙ c.in_ok-tokens.ensures ∙ ap (λ (a : AttributeTree). leaves a.value) c.agents.view_is in
-    hands_on (agent_rows c.args.text.now _) _ _ c.from_residual-in_err-check_distinct.ensures (told_twice c.args.text.now c.args.agents.now _ c.in_ok-names.ensures.rows (rw tokens at c.in_err-check_distinct.ensures))
+    hands_on build_fault (agent_rows c.args.text.now _) _ _ c.from_residual-in_err-check_distinct.ensures (told_twice c.args.text.now c.args.agents.now _ c.in_ok-names.ensures.rows (rw tokens at c.in_err-check_distinct.ensures))
 
 pub returns-clause-rows : goal.returns-clause-rows
 returns-clause-rows c =

@@ -6,16 +6,17 @@ use Rattle.std.proofs.Common.{ℕ, Err, Ok, ap, ◌∙◌}
 use Rattle.maid_model.specs.Names.{list_of}
 use Rattle.net_lexer.specs.declared.tokens.Token.{Token}
 use Rattle.net_build.specs.Table.{owner_rows}
-use Rattle.net_build.proofs.LinkLemmas.{hands_on}
+use Rattle.first_fault.proofs.HandedOn.{hands_on}
+use Rattle.net_build.specs.Passes.{build_fault}
 use Rattle.net_build.proofs.OwnerLemmas.{owners_refused, owners_numbered}
 use Rattle.net_build.proofs.owners.agent_owners.Goals as goal
 
 pub returns-in_err-names-clause-rows : goal.returns-in_err-names-clause-rows
-returns-in_err-names-clause-rows c = hands_on (owner_rows c.args.text.now _ c.args.block.now) _ _ c.from_residual.ensures (owners_refused c.args.text.now _ c.args.block.now _ c.in_err-names.ensures.rows)
+returns-in_err-names-clause-rows c = hands_on build_fault (owner_rows c.args.text.now _ c.args.block.now) _ _ c.from_residual.ensures (owners_refused c.args.text.now _ c.args.block.now _ c.in_err-names.ensures.rows)
 
 pub returns-in_err-numbers-clause-rows : goal.returns-in_err-numbers-clause-rows
 returns-in_err-numbers-clause-rows c =
-    hands_on (owner_rows c.args.text.now _ c.args.block.now) _ _ c.from_residual-in_err-numbers.ensures
+    hands_on build_fault (owner_rows c.args.text.now _ c.args.block.now) _ _ c.from_residual-in_err-numbers.ensures
     (owners_numbered {A = ℕ} c.args.text.now (list_of c.args.agents.now.items) c.args.block.now (list_of c.in_ok-names.names.items) c.title.result.start (Err c.in_err-numbers.field-0.0)
     c.in_ok-names.ensures.rows c.in_ok-names.ensures.names (ap (λ (t : Token). t.start) c.title.ensures) (rw c.deref.ensures.value at c.in_err-numbers.ensures.rows))
 

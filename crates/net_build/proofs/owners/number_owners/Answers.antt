@@ -9,7 +9,9 @@ use Rattle.maid_model.specs.Names.{list_of}
 use Rattle.first_fault.specs.Passes.{each_after}
 use Rattle.net_build.specs.Blocks.{with_sight, with_sights, place_among}
 use Rattle.net_build.specs.Table.{sight_row}
-use Rattle.net_build.proofs.LinkLemmas.{hands_on, behind_on, behind_refused, behind_end}
+use Rattle.first_fault.proofs.HandedOn.{hands_on}
+use Rattle.net_build.specs.Passes.{build_fault}
+use Rattle.net_build.proofs.LinkLemmas.{behind_on, behind_refused, behind_end}
 use Rattle.net_build.proofs.OwnerLemmas.{name_item, names_within, numbers_step, sights_step}
 use Rattle.net_build.proofs.owners.number_owners.Goals as goal
 
@@ -17,7 +19,7 @@ pub returns-in_err-number_agent-clause-rows : goal.returns-in_err-number_agent-c
 returns-in_err-number_agent-clause-rows c =
     let row = sight_row (list_of c.args.agents.now.items) c.args.at in
     let names = list_of c.args.names.now in
-    hands_on (each_after row [] names) _ _ c.from_residual.ensures
+    hands_on build_fault (each_after row [] names) _ _ c.from_residual.ensures
     (behind_refused row names (each_after row [] names) c.loop-name.name-index c.name-item.result.items _ (names_within c.args.names.now c.loop-name.name-index c.loop-name-test.true)
     (name_item c.args.names.now c.loop-name.name-index c.name-item.result c.loop-name-test.true c.name-item.is) c.loop-name.invariant.lead
     (rw (c.deref.ensures.value, c.loop-name.invariant.agents) at c.in_err-number_agent.ensures.rows))

@@ -8,7 +8,8 @@ use Rattle.net_parser.specs.Owned.{IsNameOf}
 use Rattle.net_build.specs.Blocks.{title, conditions}
 use Rattle.net_build.specs.Linking.{block_steps, borrowed_trees, conditions_steps, many_row, node_named, taken_row, unknown_row}
 use Rattle.net_build.proofs.FitLemmas.{conditions_fit}
-use Rattle.net_build.proofs.LinkLemmas.{hands_on}
+use Rattle.first_fault.proofs.HandedOn.{hands_on}
+use Rattle.net_build.specs.Passes.{build_fault}
 use Rattle.net_build.proofs.potentials.read_potential.Goals as goal
 
 pub read_conditions-requires-clause-conditions : goal.read_conditions-requires-clause-conditions
@@ -25,7 +26,7 @@ returns-in_err-node-clause-rows c =
     let trees = borrowed_trees c.args.potentials.now in
     let head = title c.args.block.now in
     let behind = conditions c.args.block.now in
-    hands_on (block_steps text names heads trees c.args.block.now) _ _ c.from_residual.ensures
+    hands_on build_fault (block_steps text names heads trees c.args.block.now) _ _ c.from_residual.ensures
     (refused_first (unknown_row text names head) (taken_row trees (node_named text names head) head ▸ conditions_steps text names heads behind ▸ many_row head behind) _
     (rw c.title-head.ensures at c.in_err-node.ensures.row))
 
@@ -37,7 +38,7 @@ returns-in_err-check_single-clause-rows c =
     let trees = borrowed_trees c.args.potentials.now in
     let head = title c.args.block.now in
     let behind = conditions c.args.block.now in
-    hands_on (block_steps text names heads trees c.args.block.now) _ _ c.from_residual-in_err-check_single.ensures
+    hands_on build_fault (block_steps text names heads trees c.args.block.now) _ _ c.from_residual-in_err-check_single.ensures
     (refused_later (unknown_row text names head) (taken_row trees (node_named text names head) head ▸ conditions_steps text names heads behind ▸ many_row head behind) _ (rw c.title-head.ensures at c.in_ok-node.ensures.row)
     (refused_first (taken_row trees (node_named text names head) head) (conditions_steps text names heads behind ▸ many_row head behind) _
     (rw (c.in_ok-node.ensures.node, c.title-head.ensures) at c.in_err-check_single.ensures)))
@@ -50,7 +51,7 @@ returns-in_err-parents-clause-rows c =
     let trees = borrowed_trees c.args.potentials.now in
     let head = title c.args.block.now in
     let behind = conditions c.args.block.now in
-    hands_on (block_steps text names heads trees c.args.block.now) _ _ c.from_residual-in_err-parents.ensures
+    hands_on build_fault (block_steps text names heads trees c.args.block.now) _ _ c.from_residual-in_err-parents.ensures
     (refused_later (unknown_row text names head) (taken_row trees (node_named text names head) head ▸ conditions_steps text names heads behind ▸ many_row head behind) _ (rw c.title-head.ensures at c.in_ok-node.ensures.row)
     (refused_later (taken_row trees (node_named text names head) head) (conditions_steps text names heads behind ▸ many_row head behind) _ (rw (c.in_ok-node.ensures.node, c.title-head.ensures) at c.in_ok-check_single.ensures)
     (refused_first (conditions_steps text names heads behind) (many_row head behind) _ (rw c.conditions-conditions.ensures at c.in_err-parents.ensures.rows))))
@@ -63,7 +64,7 @@ returns-in_err-check_count-clause-rows c =
     let trees = borrowed_trees c.args.potentials.now in
     let head = title c.args.block.now in
     let behind = conditions c.args.block.now in
-    hands_on (block_steps text names heads trees c.args.block.now) _ _ c.from_residual-in_err-check_count.ensures
+    hands_on build_fault (block_steps text names heads trees c.args.block.now) _ _ c.from_residual-in_err-check_count.ensures
     (refused_later (unknown_row text names head) (taken_row trees (node_named text names head) head ▸ conditions_steps text names heads behind ▸ many_row head behind) _ (rw c.title-head.ensures at c.in_ok-node.ensures.row)
     (refused_later (taken_row trees (node_named text names head) head) (conditions_steps text names heads behind ▸ many_row head behind) _ (rw (c.in_ok-node.ensures.node, c.title-head.ensures) at c.in_ok-check_single.ensures)
     (refused_later (conditions_steps text names heads behind) (many_row head behind) _ (rw c.conditions-conditions.ensures at c.in_ok-parents.ensures.rows)

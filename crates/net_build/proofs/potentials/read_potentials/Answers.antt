@@ -13,7 +13,8 @@ use Rattle.net_parser.specs.Trees.{BlockTree}
 use Rattle.net_parser.specs.Grammar.{is_potential}
 use Rattle.net_build.specs.Linking.{borrowed_trees, behind_rows, potentials_steps, potentials_among, parents_in, AreParents}
 use Rattle.net_build.specs.Lists.{numbers_of_lists}
-use Rattle.net_build.proofs.LinkLemmas.{hands_on}
+use Rattle.first_fault.proofs.HandedOn.{hands_on}
+use Rattle.net_build.specs.Passes.{build_fault}
 use Rattle.net_build.proofs.LinkPasses.{length_among, length_in}
 use Rattle.first_fault.proofs.Leading.{after_refused, after_skip, after_step, leads_all, filter_front_no, after_end}
 use Rattle.net_build.proofs.PotentialLemmas.{no_trees, none_among, none_in, entered_from, parents_from}
@@ -68,7 +69,7 @@ returns-in_err-node-clause-rows c =
     let is : c.block-item.result ≡ get_or c.args.syntax.now c.loop-block.block-index c.block-item.result = c.block-item.is ∙ ap (λ bs. get_or bs c.loop-block.block-index c.block-item.result) blocks in
     let kept : is_potential c.block-item.result.kind ≡ true = sym c.is_potential.ensures ∙ c.if-is_potential.true in
     let trees : borrowed_trees c.deref.result.now ≡ potentials_among c.args.text.now c.args.names.now (filter (λ b. is_potential b.kind) (take c.loop-block.block-index c.args.syntax.now)) = ap borrowed_trees c.deref.ensures.value ∙ c.loop-block.invariant.potentials in
-    hands_on (potentials_steps c.args.text.now c.args.names.now c.args.heads.now c.args.syntax.now) _ _ c.from_residual-in_err-node.ensures
+    hands_on build_fault (potentials_steps c.args.text.now c.args.names.now c.args.heads.now c.args.syntax.now) _ _ c.from_residual-in_err-node.ensures
     (after_refused (behind_rows c.args.text.now c.args.names.now c.args.heads.now) (λ b. is_potential b.kind) c.args.syntax.now _ c.loop-block.block-index c.block-item.result _ within is kept c.loop-block.invariant.lead
     (rw (← trees) c.in_err-node.ensures.rows))
 

@@ -2,14 +2,15 @@
 use Rattle.std.proofs.lemmas.List.{get_or_default}
 use Rattle.net_build.specs.Linking.{size_rows_over}
 use Rattle.net_build.specs.Stages.{no_head}
-use Rattle.net_build.proofs.LinkLemmas.{hands_on}
+use Rattle.first_fault.proofs.HandedOn.{hands_on}
+use Rattle.net_build.specs.Passes.{build_fault}
 use Rattle.net_build.proofs.SizeLemmas.{size_refused, size_kept}
 use Rattle.net_build.proofs.sizes.check_size.Goals as goal
 
 pub returns-in_err-check_rules-in-Decision-clause-rows :
     goal.returns-in_err-check_rules-in-Decision-clause-rows
 returns-in_err-check_rules-in-Decision-clause-rows c =
-    hands_on (size_rows_over c.args.heads.now c.args.parents.now c.args.node c.args.rules) _ _ c.from_residual-in_err-check_rules-in-Decision.ensures
+    hands_on build_fault (size_rows_over c.args.heads.now c.args.parents.now c.args.node c.args.rules) _ _ c.from_residual-in_err-check_rules-in-Decision.ensures
     (size_refused c.args.heads.now c.args.parents.now c.args.node c.args.rules _ _ _ c.in_ok-cells.ensures.cells c.in_ok-cells.ensures.row (get_or_default c.args.heads.now c.args.node _ no_head c.requires.within) c.in-Decision.is c.in_err-check_rules-in-Decision.ensures)
 
 pub returns-in_ok-check_rules-in-Decision-clause-rows :

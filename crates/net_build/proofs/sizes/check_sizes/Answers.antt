@@ -6,7 +6,9 @@ use Rattle.maid_model.specs.Nodes.{is_decision}
 use Rattle.net_build.specs.Linking.{cells_of_head_over, size_steps_at, size_steps}
 use Rattle.net_build.specs.Lists.{numbers_of_lists}
 use Rattle.net_build.specs.Stages.{head_at, cells_of_head}
-use Rattle.net_build.proofs.LinkLemmas.{hands_on, range_on, range_refused}
+use Rattle.first_fault.proofs.HandedOn.{hands_on}
+use Rattle.net_build.specs.Passes.{build_fault}
+use Rattle.net_build.proofs.LinkLemmas.{range_on, range_refused}
 use Rattle.net_build.proofs.SizeLemmas.{rules_more}
 use Rattle.net_build.proofs.sizes.check_sizes.Goals as goal
 
@@ -24,7 +26,7 @@ pub returns-in_err-rules-clause-rows : goal.returns-in_err-rules-clause-rows
 returns-in_err-rules-clause-rows c =
     let within : c.loop-node.node < length c.args.parents.now = omega (arith, c.requires.len, c.loop-node-test.true) in
     let is : c.deref.result.now ≡ get_or (numbers_of_lists c.args.parents.now) c.loop-node.node [] = row_at c.args.parents.now c.loop-node.node c.index-parents-node.result _ within c.index-parents-node.is c.deref.ensures.value in
-    hands_on (size_steps c.args.heads.now (numbers_of_lists c.args.parents.now)) _ _ c.from_residual.ensures
+    hands_on build_fault (size_steps c.args.heads.now (numbers_of_lists c.args.parents.now)) _ _ c.from_residual.ensures
     (range_refused (size_steps_at c.args.heads.now (numbers_of_lists c.args.parents.now)) _ c.loop-node.node (length c.args.heads.now) _ c.loop-node-test.true c.loop-node.invariant.lead
     (rw (← c.loop-node.invariant.sum, ← is) c.in_err-rules.ensures.rows))
 

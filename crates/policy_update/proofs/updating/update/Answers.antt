@@ -8,7 +8,8 @@ use Rattle.policy_update.proofs.Spent.{rounds_raise}
 use Rattle.first_fault.proofs.Leading.{passes_on, refused_first, refused_later}
 use Rattle.policy_update.specs.Faults.{owners_pass, rounds_pass, update_bound_pass, update_fault, update_pass, update_size_pass}
 use Rattle.std.proofs.Common.{◌∙◌}
-use Rattle.policy_update.proofs.Refused.{hands_on, out_of_memory}
+use Rattle.first_fault.proofs.HandedOn.{hands_on}
+use Rattle.policy_update.specs.declared.faults.UpdateFault.TheVariants.{NoMemory}
 use Rattle.first_fault.specs.Passes.{◌▸◌}
 use Rattle.policy_update.proofs.updating.update.Goals as goal
 
@@ -73,7 +74,7 @@ pub returns-clause-ok : goal.returns-clause-ok
 returns-clause-ok c = c.update_within.ensures.ok
 
 pub returns-in_err-decisions-clause-rows : goal.returns-in_err-decisions-clause-rows
-returns-in_err-decisions-clause-rows c = out_of_memory (update_pass c.args.diagram.now c.args.rounds) _ c.from_residual.ensures
+returns-in_err-decisions-clause-rows c = hands_on update_fault (update_pass c.args.diagram.now c.args.rounds) _ NoMemory c.from_residual.ensures tt
 
 pub returns-in_err-decisions-clause-ok : goal.returns-in_err-decisions-clause-ok
 returns-in_err-decisions-clause-ok c = IfOk-from_err _ _ c.from_residual.ensures.0
@@ -85,7 +86,7 @@ pub returns-in_err-keep_one_owner-clause-rows : goal.returns-in_err-keep_one_own
 returns-in_err-keep_one_owner-clause-rows c =
     let d = c.args.diagram.now in
     let fault = c.in_err-keep_one_owner.field-0.0 in
-    hands_on (update_pass d c.args.rounds) _ fault c.from_residual-in_err-keep_one_owner.ensures
+    hands_on update_fault (update_pass d c.args.rounds) _ fault c.from_residual-in_err-keep_one_owner.ensures
     (refused_first (owners_pass d) (update_bound_pass d ▸ update_size_pass d ▸ rounds_pass d c.args.rounds) (update_fault fault) c.in_err-keep_one_owner.ensures)
 
 pub returns-in_err-keep_one_owner-clause-ok : goal.returns-in_err-keep_one_owner-clause-ok
@@ -99,7 +100,7 @@ returns-in_err-keep_bound-clause-rows c =
     let d = c.args.diagram.now in
     let fault = c.in_err-keep_bound.field-0.0 in
     let rest = update_size_pass d ▸ rounds_pass d c.args.rounds in
-    hands_on (update_pass d c.args.rounds) _ fault c.from_residual-in_err-keep_bound.ensures
+    hands_on update_fault (update_pass d c.args.rounds) _ fault c.from_residual-in_err-keep_bound.ensures
     (refused_later (owners_pass d) (update_bound_pass d ▸ rest) (update_fault fault) c.in_ok-keep_one_owner.ensures
     (refused_first (update_bound_pass d) rest (update_fault fault) c.in_err-keep_bound.ensures.rows))
 
@@ -114,7 +115,7 @@ returns-in_err-run-clause-rows c =
     let d = c.args.diagram.now in
     let fault = c.in_err-run.field-0.0 in
     let rounds = rounds_pass d c.args.rounds in
-    hands_on (update_pass d c.args.rounds) _ fault c.from_residual-in_err-run.ensures
+    hands_on update_fault (update_pass d c.args.rounds) _ fault c.from_residual-in_err-run.ensures
     (refused_later (owners_pass d) (update_bound_pass d ▸ update_size_pass d ▸ rounds) (update_fault fault) c.in_ok-keep_one_owner.ensures
     (refused_later (update_bound_pass d) (update_size_pass d ▸ rounds) (update_fault fault) c.in_ok-keep_bound.ensures.rows
     (refused_first (update_size_pass d) rounds (update_fault fault) c.in_err-run.ensures.rows)))

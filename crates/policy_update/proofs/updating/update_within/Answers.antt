@@ -14,8 +14,9 @@ use Rattle.policy_update.proofs.Owners.{decision_at, owns_like}
 use Rattle.policy_update.proofs.Plans.{first_plan, first_start, plan_pure}
 use Rattle.policy_update.proofs.Rising.{some_decision}
 use Rattle.policy_update.proofs.Spent.{never_reached}
-use Rattle.policy_update.proofs.Refused.{out_of_memory}
-use Rattle.policy_update.specs.Faults.{rounds_pass}
+use Rattle.first_fault.proofs.HandedOn.{hands_on}
+use Rattle.policy_update.specs.declared.faults.UpdateFault.TheVariants.{NoMemory}
+use Rattle.policy_update.specs.Faults.{rounds_pass, update_fault}
 use Rattle.std.proofs.lemmas.Result.{IfOk-from_err}
 use Rattle.policy_update.proofs.updating.update_within.Goals as goal
 
@@ -118,31 +119,31 @@ pub owner-requires-clause-decisions : goal.owner-requires-clause-decisions
 owner-requires-clause-decisions c = c.requires.decisions
 
 pub returns-in_err-answers-clause-rows : goal.returns-in_err-answers-clause-rows
-returns-in_err-answers-clause-rows c = out_of_memory (rounds_pass c.args.diagram.now c.args.rounds) _ c.from_residual.ensures
+returns-in_err-answers-clause-rows c = hands_on update_fault (rounds_pass c.args.diagram.now c.args.rounds) _ NoMemory c.from_residual.ensures tt
 
 pub returns-in_err-answers-clause-ok : goal.returns-in_err-answers-clause-ok
 returns-in_err-answers-clause-ok c = IfOk-from_err _ _ c.from_residual.ensures.0
 
 pub returns-in_err-profile-clause-rows : goal.returns-in_err-profile-clause-rows
-returns-in_err-profile-clause-rows c = out_of_memory (rounds_pass c.args.diagram.now c.args.rounds) _ c.from_residual-in_err-profile.ensures
+returns-in_err-profile-clause-rows c = hands_on update_fault (rounds_pass c.args.diagram.now c.args.rounds) _ NoMemory c.from_residual-in_err-profile.ensures tt
 
 pub returns-in_err-profile-clause-ok : goal.returns-in_err-profile-clause-ok
 returns-in_err-profile-clause-ok c = IfOk-from_err _ _ c.from_residual-in_err-profile.ensures.0
 
 pub returns-in_err-spaces-clause-rows : goal.returns-in_err-spaces-clause-rows
-returns-in_err-spaces-clause-rows c = out_of_memory (rounds_pass c.args.diagram.now c.args.rounds) _ c.from_residual-in_err-spaces.ensures
+returns-in_err-spaces-clause-rows c = hands_on update_fault (rounds_pass c.args.diagram.now c.args.rounds) _ NoMemory c.from_residual-in_err-spaces.ensures tt
 
 pub returns-in_err-spaces-clause-ok : goal.returns-in_err-spaces-clause-ok
 returns-in_err-spaces-clause-ok c = IfOk-from_err _ _ c.from_residual-in_err-spaces.ensures.0
 
 pub returns-in_err-settled-clause-rows : goal.returns-in_err-settled-clause-rows
-returns-in_err-settled-clause-rows c = out_of_memory (rounds_pass c.args.diagram.now c.args.rounds) _ c.from_residual-in_err-settled.ensures
+returns-in_err-settled-clause-rows c = hands_on update_fault (rounds_pass c.args.diagram.now c.args.rounds) _ NoMemory c.from_residual-in_err-settled.ensures tt
 
 pub returns-in_err-settled-clause-ok : goal.returns-in_err-settled-clause-ok
 returns-in_err-settled-clause-ok c = IfOk-from_err _ _ c.from_residual-in_err-settled.ensures.0
 
 pub returns-in_err-gains-clause-rows : goal.returns-in_err-gains-clause-rows
-returns-in_err-gains-clause-rows c = out_of_memory (rounds_pass c.args.diagram.now c.args.rounds) _ c.from_residual-in_err-gains.ensures
+returns-in_err-gains-clause-rows c = hands_on update_fault (rounds_pass c.args.diagram.now c.args.rounds) _ NoMemory c.from_residual-in_err-gains.ensures tt
 
 pub returns-in_err-gains-clause-ok : goal.returns-in_err-gains-clause-ok
 returns-in_err-gains-clause-ok c = IfOk-from_err _ _ c.from_residual-in_err-gains.ensures.0

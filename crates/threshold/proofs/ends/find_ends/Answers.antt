@@ -1,7 +1,9 @@
 use Rattle.std.proofs.lemmas.Result.{err_from_is_err_and, IfOk-from_err}
 use Rattle.threshold.proofs.SameTotals.{refused_there, passed_there, ends_there}
 use Rattle.threshold.specs.Ends.{place_pass}
-use Rattle.threshold.proofs.Refused.{hands_on, out_of_memory}
+use Rattle.first_fault.proofs.HandedOn.{hands_on}
+use Rattle.threshold.specs.Faults.{span_fault}
+use Rattle.threshold.specs.declared.faults.SpanFault.TheVariants.{NoMemory}
 use Rattle.threshold.proofs.ends.find_ends.Goals as goal
 
 pub returns-in_err-keep_bound-clause-rows : goal.returns-in_err-keep_bound-clause-rows
@@ -31,13 +33,13 @@ pub at_one-requires-clause-totals : goal.at_one-requires-clause-totals
 at_one-requires-clause-totals c = c.in_ok-totals.ensures.totals
 
 pub returns-in_err-totals-clause-rows : goal.returns-in_err-totals-clause-rows
-returns-in_err-totals-clause-rows c = hands_on (place_pass c.args.diagram.now c.args.place) _ c.in_err-totals.field-0.0 c.from_residual.ensures c.in_err-totals.ensures.refused
+returns-in_err-totals-clause-rows c = hands_on span_fault (place_pass c.args.diagram.now c.args.place) _ c.in_err-totals.field-0.0 c.from_residual.ensures c.in_err-totals.ensures.refused
 
 pub returns-in_err-nought-clause-rows : goal.returns-in_err-nought-clause-rows
-returns-in_err-nought-clause-rows c = out_of_memory (place_pass c.args.diagram.now c.args.place) _ c.from_residual-in_err-nought.ensures
+returns-in_err-nought-clause-rows c = hands_on span_fault (place_pass c.args.diagram.now c.args.place) _ NoMemory c.from_residual-in_err-nought.ensures tt
 
 pub returns-in_err-one-clause-rows : goal.returns-in_err-one-clause-rows
-returns-in_err-one-clause-rows c = out_of_memory (place_pass c.args.diagram.now c.args.place) _ c.from_residual-in_err-one.ensures
+returns-in_err-one-clause-rows c = hands_on span_fault (place_pass c.args.diagram.now c.args.place) _ NoMemory c.from_residual-in_err-one.ensures tt
 
 pub returns-in_err-totals-clause-ends : goal.returns-in_err-totals-clause-ends
 returns-in_err-totals-clause-ends c = IfOk-from_err _ _ c.from_residual.ensures.0
