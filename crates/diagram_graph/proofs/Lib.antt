@@ -12,3 +12,4 @@ pub mod MoreArcs
 pub mod Deciding
 pub mod Fixing
 pub mod Kept
+mod Members

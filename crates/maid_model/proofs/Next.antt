@@ -59,6 +59,29 @@ pub record NextSoFar (cs old xs : List ℕ) (v : ℕ) : Type 0 where
   pub now : xs ≡ take v old ++ replicate (length old - v) 0
   pub done : worlds_from (drop v cs) (drop v old) ≡ drop v old ∷ []
 
+-- none is set back at the start
+pub so_far_none : (cs old xs : List ℕ) (v : ℕ) → length old ≡ length cs → xs ≡ old → v ≡ length xs → NextSoFar cs old xs v
+so_far_none cs old xs v len same all =
+    let at : v ≡ length old = all ∙ ap length same in
+    record { within = omega arith; now = same ∙ whole old v at; done = nothing cs old v at (sym len) }
+  where
+    less : (n v : ℕ) → n - v ≡ suc n - suc v
+    less n v = omega arith
+
+    whole : (old : List ℕ) (v : ℕ) → v ≡ length old → old ≡ take v old ++ replicate (length old - v) 0
+    whole [] zero e = refl
+    whole [] (suc v) e = absurd (omega (arith, e))
+    whole (x ∷ old) zero e = absurd (omega (arith, e))
+    whole (x ∷ old) (suc v) e = ap (λ xs. x ∷ xs) (whole old v (omega (arith, e))) ∙ ap (λ n. x ∷ (take v old ++ replicate n 0)) (less (length old) v)
+
+    nothing : (cs old : List ℕ) (v : ℕ) → v ≡ length old → length cs ≡ length old → worlds_from (drop v cs) (drop v old) ≡ drop v old ∷ []
+    nothing [] [] zero e f = refl
+    nothing [] [] (suc v) e f = absurd (omega (arith, e))
+    nothing [] (x ∷ old) v e f = absurd (omega (arith, f))
+    nothing (c ∷ cs) [] v e f = absurd (omega (arith, f))
+    nothing (c ∷ cs) (x ∷ old) zero e f = absurd (omega (arith, e))
+    nothing (c ∷ cs) (x ∷ old) (suc v) e f = nothing cs old v (omega (arith, e)) (omega (arith, f))
+
 pub IsWorld-tail : (c x : ℕ) (cs xs : List ℕ) → IsWorld (c ∷ cs) (x ∷ xs) → IsWorld cs xs
 IsWorld-tail c x cs xs w = record { len = omega (arith, w.len); each = λ v l. w.each (suc v) (omega arith) }
 

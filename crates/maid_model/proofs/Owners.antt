@@ -1,10 +1,12 @@
--- Who owns a node, by looking at the first owner and then at the others.
-use Rattle.std.proofs.Common.{◌≡◌, ◌↔◌, ◌⊎◌, ◌==◌, ℕ, zero, suc, ◌<◌, Bool, true, false, ◌&&◌, List, ◌∷◌, length, Contains, IsTrue, refl, sym, ◌∙◌, ap, subst, inr, arith}
+-- What a node is, by its kind, and who owns it, by looking at the first owner and then at the others.
+use Rattle.std.proofs.Common.{◌≡◌, ◌↔◌, ◌⊎◌, ◌==◌, ℕ, zero, suc, ◌<◌, Bool, true, false, ◌&&◌, List, ◌∷◌, length, get_or, Contains, IsTrue, refl, sym, ◌∙◌, ap, subst, inl, inr, arith}
 use Rattle.std.proofs.lemmas.Bool.{false≢true}
+use Rattle.std.proofs.lemmas.List.{get_or_default}
 use Rattle.std.specs.List.{list_any}
-use Rattle.maid_model.specs.declared.diagrams.Kind.TheVariants.{Decision, Utility}
+use Rattle.maid_model.specs.declared.diagrams.Kind.{Kind}
+use Rattle.maid_model.specs.declared.diagrams.Kind.TheVariants.{Chance, Decision, Utility}
 use Rattle.maid_model.specs.Views.{NodeView}
-use Rattle.maid_model.specs.Nodes.{node_at, owners_of, IsOwnedBy, owns, is_utility, is_utility_of}
+use Rattle.maid_model.specs.Nodes.{no_node, node_at, owners_of, IsOwnedBy, owns, is_decision, is_utility, is_utility_of}
 use Rattle.finite_sums.proofs.Members.{any_is}
 
 owned_by : (nodes : List NodeView) (v agent : ℕ) → v < length nodes → ((node_at nodes v).kind ≡ Decision) ⊎ ((node_at nodes v).kind ≡ Utility)
@@ -32,3 +34,11 @@ utility_owned nodes v agent l kind b told =
     same true c f g = sym (f refl)
     same false true f g = absurd (false≢true (g refl))
     same false false f g = refl
+
+-- what stands at a node's place in the diagram's list is the node
+pub node_read : (items nodes : List NodeView) (v : ℕ) (n : NodeView) → items ≡ nodes → v < length nodes → n ≡ get_or items v n → n ≡ node_at nodes v
+node_read items nodes v n same l at = at ∙ ap (λ xs. get_or xs v n) same ∙ get_or_default nodes v n no_node l
+
+pub no_decision : (k : Kind) (n : NodeView) → (k ≡ Chance) ⊎ (k ≡ Utility) → k ≡ n.kind → false ≡ is_decision n.kind
+no_decision k n (inl chance) is = sym (ap is_decision (sym is ∙ chance))
+no_decision k n (inr utility) is = sym (ap is_decision (sym is ∙ utility))

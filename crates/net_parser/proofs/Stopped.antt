@@ -1,8 +1,8 @@
 -- Where reading stops at the next token, and where it goes on.
-use Rattle.std.proofs.Common.{◌≡◌, ◌≢◌, ℕ, Bool, true, false, not, ◌&&◌, List, [], ◌∷◌, ◌++◌, inl, inr, bytes_eq, refl, sym, ap, subst, ◌∙◌}
-use Rattle.std.specs.Prelude.{Some, None, codes, if◌then◌else◌}
+use Rattle.std.proofs.Common.{◌≡◌, ◌≢◌, ◌-◌, ◌⊎◌, ℕ, Bool, true, false, not, ◌&&◌, List, [], ◌∷◌, ◌++◌, inl, inr, bytes_eq, refl, sym, ap, subst, ◌∙◌, nat_lt, length, arith}
+use Rattle.std.specs.Prelude.{◌<◌, Some, None, codes, if◌then◌else◌}
 use Rattle.std.specs.Option.{option_map, option_map_or}
-use Rattle.std.proofs.lemmas.Bool.{false≢true, false_from_ne_true}
+use Rattle.std.proofs.lemmas.Bool.{false≢true, false_from_ne_true, lt-ltb}
 use Rattle.net_lexer.specs.contracts.tokens.TokenKind.{the_type}
 use Rattle.net_lexer.specs.declared.tokens.TokenKind.{TokenKind}
 use Rattle.net_lexer.specs.declared.tokens.TokenKind.TheVariants as kinds
@@ -10,9 +10,10 @@ use Rattle.net_lexer.specs.Token.{is_name}
 use Rattle.net_parser.proofs.Telling.{word_is, either, may_name-free, may_name-other}
 use denote.Enum.Bare.{sameb}
 use Rattle.net_parser.specs.declared.reader.Stop.{Stop}
-use Rattle.net_parser.specs.declared.reader.Stop.TheVariants.{Unexpected, Unsupported}
-use Rattle.net_parser.specs.Lexemes.{Lexeme}
-use Rattle.net_parser.specs.Reading.{Symbol, stop, within, block_place, block_token, block_refusal, next, refusal_at, name, node_word, attribute_name, is_model_name, may_name}
+use Rattle.net_parser.specs.declared.reader.Stop.TheVariants.{Unexpected, Unsupported, TooDeep}
+use Rattle.net_parser.specs.Grammar.{Mark}
+use Rattle.net_parser.specs.Lexemes.{Lexeme, is_leaf}
+use Rattle.net_parser.specs.Reading.{Symbol, stop, within, block_place, block_token, block_refusal, next, refusal_at, name, node_word, attribute_name, value, values, is_model_name, may_name}
 
 pub word_kind : (kind : TokenKind) → false ≡ not (sameb the_type kind kinds.Word) → kind ≡ kinds.Word
 word_kind kinds.Word e = refl
@@ -104,3 +105,41 @@ model_name true bytes e model = (
 pub other_name : (potential : Bool) (bytes : List ℕ) → is_name bytes ≡ true → (potential ≡ true → is_model_name bytes ≡ false) → may_name potential bytes ≡ true
 other_name false bytes e other = may_name-free bytes e
 other_name true bytes e other = may_name-other bytes e (other refl)
+
+-- the mark that ends what the symbol stands for
+pub closes : (symbol : Symbol) (kind : TokenKind) → ((bytes : List ℕ) → next symbol kind bytes ≡ Some []) → (after : List Symbol) (a b : List Lexeme) → Mark kind a b → stop (within (symbol ∷ after)) a ≡ stop (within after) b
+closes symbol kind ends after [] b h = absurd h
+closes symbol kind ends after (l ∷ ls) b h =
+    went_on_at symbol after l (l ∷ ls) ls [] refl (ap (λ seen. next symbol seen l.bytes) h.0 ∙ ends l.bytes) ∙ ap (stop (within after)) h.1
+
+-- the parenthesis that opens a list, where one may be opened
+pub list_opens : (depth : ℕ) (after : List Symbol) (l : Lexeme) (tokens rest further : List Lexeme) → tokens ≡ l ∷ rest → l.token.kind ≡ kinds.ParenOpen → 0 < depth → further ≡ rest → stop (within (value depth ∷ after)) tokens ≡ stop (within (values (depth - 1) ∷ after)) further
+list_opens depth after l tokens rest further is kind room e =
+    let some = ap (λ seen. next (value depth) seen l.bytes) kind ∙ ap (λ test. if test then Some (values (depth - 1) ∷ []) else None) (lt-ltb 0 depth room) in
+    went_on_at (value depth) after l tokens rest (values (depth - 1) ∷ []) is some ∙ ap (stop (within (values (depth - 1) ∷ after))) (sym e)
+
+-- no list may be opened
+pub list_too_deep : (depth : ℕ) (after : List Symbol) (l : Lexeme) (tokens rest : List Lexeme) → tokens ≡ l ∷ rest → l.token.kind ≡ kinds.ParenOpen → depth ≡ 0 → stop (within (value depth ∷ after)) tokens ≡ Some (TooDeep, tokens)
+list_too_deep depth after l tokens rest is kind full =
+    let none = ap (λ seen. next (value depth) seen l.bytes) kind ∙ ap (λ n. if nat_lt 0 n then Some (values (n - 1) ∷ []) else None) full in
+    stopped_at (value depth) after l tokens rest TooDeep is none (ap (λ seen. refusal_at (value depth) seen l.bytes) kind)
+
+-- a string, a numeral or a word
+pub leaf_kind : (kind : TokenKind) → (kind ≡ kinds.Text) ⊎ (kind ≡ kinds.Number) ⊎ (kind ≡ kinds.Word) → is_leaf kind ≡ true
+leaf_kind kind (inl e) = rw e refl
+leaf_kind kind (inr (inl e)) = rw e refl
+leaf_kind kind (inr (inr e)) = rw e refl
+
+leaf_next : (depth : ℕ) (kind : TokenKind) (bytes : List ℕ) → is_leaf kind ≡ true → next (value depth) kind bytes ≡ Some []
+leaf_next depth kinds.Word bytes e = refl
+leaf_next depth kinds.Text bytes e = refl
+leaf_next depth kinds.Number bytes e = refl
+leaf_next depth kind bytes e = cc
+
+pub leaf_read : (depth : ℕ) (after : List Symbol) (l : Lexeme) (tokens rest further : List Lexeme) → tokens ≡ l ∷ rest → is_leaf l.token.kind ≡ true → further ≡ rest → stop (within (value depth ∷ after)) tokens ≡ stop (within after) further
+leaf_read depth after l tokens rest further is leaf e =
+    went_on_at (value depth) after l tokens rest [] is (leaf_next depth l.token.kind l.bytes leaf) ∙ ap (stop (within after)) (sym e)
+
+pub mark_shorter : (kind : TokenKind) (a b : List Lexeme) → Mark kind a b → length b < length a
+mark_shorter kind [] b h = absurd h
+mark_shorter kind (l ∷ ls) b h = omega (arith, ap length h.1)

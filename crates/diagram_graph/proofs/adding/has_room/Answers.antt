@@ -29,3 +29,12 @@ returns c =
       (λ t. let l = leb-true _ _ t in h.0 (omega arith, omega arith, omega arith)),
       (λ fit. let l = (h.1 fit).2 in le-leb _ _ (omega arith)),
     )
+
+pub returns-then-seen-ge-MOST_PARENTS : goal.returns-then-seen-ge-MOST_PARENTS
+returns-then-seen-ge-MOST_PARENTS c = (
+  (λ t. absurd (let u = t in cc)),
+  (λ fit.
+      let h = (room c.args.diagram.now.nodes c.args.from c.args.to c.requires.decision).1 fit in
+      let seen = ap (λ (us : List ℕ). length us) c.parents-seen.ensures.parents in
+      absurd (omega (arith, h.0, seen, c.if-seen-ge-MOST_PARENTS.true))),
+)

@@ -28,3 +28,11 @@ returns-clause-cycle c =
     first_cycle_same (IsMarkedIn marks) (λ v. v < length lists) lists
     (λ v. rw (length-map c.args.parents.now (λ row. row.items)) (all_in _ marks (c.deref.ensures.value ∙ c.in_ok-nodes.ensures.items_if_clones_equal (λ y e. e)) v))
     _ cycle.first
+
+pub returns-in-Order-clause-ring : goal.returns-in-Order-clause-ring
+returns-in-Order-clause-ring c = tt
+
+pub returns-clause-ring : goal.returns-clause-ring
+returns-clause-ring c =
+    let cycle : IsCycleOf (lists_in c.args.parents.now) c.deref.result.now c.in-Cycle.cycle.items = subst (λ p. IsPlacingOf (lists_in c.args.parents.now) c.deref.result.now p) c.in-Cycle.is c.in_ok-place_all.ensures in
+    cycle.ring

@@ -8,6 +8,12 @@ use Rattle.diagram_graph.specs.Room.{rule_cells}
 use Rattle.diagram_graph.proofs.Deciding.{rules_grow, made_kept}
 use Rattle.diagram_graph.proofs.kinds.make_decision.Goals as goal
 
+pub returns-clause-made : goal.returns-clause-made
+returns-clause-made c =
+    let diagram = c.args.diagram.now in
+    let nodes : c.put.new.nodes.items ≡ as_decision diagram.nodes c.args.agent c.args.node = c.put.ensures ∙ (λ i. slice_set (c.in_ok-nodes.ensures i) c.args.node (c.in_ok-made.ensures i)) in
+    c.with_nodes.ensures ∙ (λ i. with_nodes diagram (nodes i))
+
 pub returns-then-cells-gt-MOST_RULE_CELLS-clause-too_large :
     goal.returns-then-cells-gt-MOST_RULE_CELLS-clause-too_large
 returns-then-cells-gt-MOST_RULE_CELLS-clause-too_large c =

@@ -1,4 +1,4 @@
-use Rattle.std.proofs.Common.{◌∙◌, ◌+◌, ◌*◌, arith, rules, pos, subst, sym, ap, get_or, replicate}
+use Rattle.std.proofs.Common.{◌∙◌, ◌+◌, ◌*◌, arith, refl, pos, subst, sym, ap, get_or, replicate}
 use Rattle.std.proofs.lemmas.Int.{to_z-of_z}
 use Rattle.std.specs.Int.{w128}
 use mir.Val.{to_z, of_z}
@@ -43,50 +43,50 @@ overflow_add-row c =
 
 pub add_gain-requires-clause-cell : goal.add_gain-requires-clause-cell
 add_gain-requires-clause-cell c =
-    code_place c.args.diagram.now c.states-states.ensures.diagram c.args.profile.now c.requires.profile c.args.decision c.goals_of-marks.result (goals_are_utilities _ _ _ c.goals_of-marks.ensures) (goals_marked _ _ _ c.goals_of-marks.ensures) c.requires.fits c.worlds.gains c.worlds.masses c.worlds.world c.worlds.invariant c.world_weight-weight.result c.world_weight-weight.ensures.weight (to_z w128 (of_z w128 c.world_gain-gain.result)) (to_z-of_z w128 c.world_gain-gain.result (search rules) ∙ c.world_gain-gain.ensures) c.row-row.result c.index-state.result.now (c.row-row.result * c.states-states.result + c.index-state.result.now) c.row-row.ensures (state_read c.args.diagram.now.nodes c.world.inside.states.items c.worlds.world c.args.decision c.index-state.result.now c.worlds.invariant.world c.requires.decision.within c.world.view_is c.index-state.ensures)
+    code_place c.args.diagram.now c.states-states.ensures.diagram c.args.profile.now c.requires.profile c.args.decision c.goals_of-marks.result (goals_are_utilities _ _ _ c.goals_of-marks.ensures) (goals_marked _ _ _ c.goals_of-marks.ensures) c.requires.fits c.worlds.gains c.worlds.masses c.worlds.world c.worlds.invariant c.world_weight-weight.result c.world_weight-weight.ensures.weight (to_z w128 (of_z w128 c.world_gain-gain.result)) (to_z-of_z w128 c.world_gain-gain.result (record { sfits = c.world_gain-gain.type_inv }) ∙ c.world_gain-gain.ensures) c.row-row.result c.index-state.result.now (c.row-row.result * c.states-states.result + c.index-state.result.now) c.row-row.ensures (state_read c.args.diagram.now.nodes c.world.inside.states.items c.worlds.world c.args.decision c.index-state.result.now c.worlds.invariant.world c.requires.decision.within c.world.view_is c.index-state.ensures)
     (λ i. c.row-row.ensures i * c.states-states.ensures.states i + (state_read c.args.diagram.now.nodes c.world.inside.states.items c.worlds.world c.args.decision c.index-state.result.now c.worlds.invariant.world c.requires.decision.within c.world.view_is c.index-state.ensures) i)
 
 pub add_gain-requires-clause-fits : goal.add_gain-requires-clause-fits
 add_gain-requires-clause-fits c =
-    code_gain c.args.diagram.now c.states-states.ensures.diagram c.args.profile.now c.requires.profile c.args.decision c.goals_of-marks.result (goals_are_utilities _ _ _ c.goals_of-marks.ensures) (goals_marked _ _ _ c.goals_of-marks.ensures) c.requires.fits c.worlds.gains c.worlds.masses c.worlds.world c.worlds.invariant c.world_weight-weight.result c.world_weight-weight.ensures.weight (to_z w128 (of_z w128 c.world_gain-gain.result)) (to_z-of_z w128 c.world_gain-gain.result (search rules) ∙ c.world_gain-gain.ensures) c.row-row.result c.index-state.result.now (c.row-row.result * c.states-states.result + c.index-state.result.now) c.row-row.ensures (state_read c.args.diagram.now.nodes c.world.inside.states.items c.worlds.world c.args.decision c.index-state.result.now c.worlds.invariant.world c.requires.decision.within c.world.view_is c.index-state.ensures)
+    code_gain c.args.diagram.now c.states-states.ensures.diagram c.args.profile.now c.requires.profile c.args.decision c.goals_of-marks.result (goals_are_utilities _ _ _ c.goals_of-marks.ensures) (goals_marked _ _ _ c.goals_of-marks.ensures) c.requires.fits c.worlds.gains c.worlds.masses c.worlds.world c.worlds.invariant c.world_weight-weight.result c.world_weight-weight.ensures.weight (to_z w128 (of_z w128 c.world_gain-gain.result)) (to_z-of_z w128 c.world_gain-gain.result (record { sfits = c.world_gain-gain.type_inv }) ∙ c.world_gain-gain.ensures) c.row-row.result c.index-state.result.now (c.row-row.result * c.states-states.result + c.index-state.result.now) c.row-row.ensures (state_read c.args.diagram.now.nodes c.world.inside.states.items c.worlds.world c.args.decision c.index-state.result.now c.worlds.invariant.world c.requires.decision.within c.world.view_is c.index-state.ensures)
     (λ i. c.row-row.ensures i * c.states-states.ensures.states i + (state_read c.args.diagram.now.nodes c.world.inside.states.items c.worlds.world c.args.decision c.index-state.result.now c.worlds.invariant.world c.requires.decision.within c.world.view_is c.index-state.ensures) i)
 
 pub add_mass-requires-clause-row : goal.add_mass-requires-clause-row
 add_mass-requires-clause-row c =
-    code_row c.args.diagram.now c.states-states.ensures.diagram c.args.profile.now c.requires.profile c.args.decision c.goals_of-marks.result (goals_are_utilities _ _ _ c.goals_of-marks.ensures) (goals_marked _ _ _ c.goals_of-marks.ensures) c.requires.fits c.worlds.gains c.worlds.masses c.worlds.world c.worlds.invariant c.world_weight-weight.result c.world_weight-weight.ensures.weight (to_z w128 (of_z w128 c.world_gain-gain.result)) (to_z-of_z w128 c.world_gain-gain.result (search rules) ∙ c.world_gain-gain.ensures) c.row-row.result c.index-state.result.now (c.row-row.result * c.states-states.result + c.index-state.result.now) c.row-row.ensures (state_read c.args.diagram.now.nodes c.world.inside.states.items c.worlds.world c.args.decision c.index-state.result.now c.worlds.invariant.world c.requires.decision.within c.world.view_is c.index-state.ensures)
+    code_row c.args.diagram.now c.states-states.ensures.diagram c.args.profile.now c.requires.profile c.args.decision c.goals_of-marks.result (goals_are_utilities _ _ _ c.goals_of-marks.ensures) (goals_marked _ _ _ c.goals_of-marks.ensures) c.requires.fits c.worlds.gains c.worlds.masses c.worlds.world c.worlds.invariant c.world_weight-weight.result c.world_weight-weight.ensures.weight (to_z w128 (of_z w128 c.world_gain-gain.result)) (to_z-of_z w128 c.world_gain-gain.result (record { sfits = c.world_gain-gain.type_inv }) ∙ c.world_gain-gain.ensures) c.row-row.result c.index-state.result.now (c.row-row.result * c.states-states.result + c.index-state.result.now) c.row-row.ensures (state_read c.args.diagram.now.nodes c.world.inside.states.items c.worlds.world c.args.decision c.index-state.result.now c.worlds.invariant.world c.requires.decision.within c.world.view_is c.index-state.ensures)
     (λ i. c.row-row.ensures i * c.states-states.ensures.states i + (state_read c.args.diagram.now.nodes c.world.inside.states.items c.worlds.world c.args.decision c.index-state.result.now c.worlds.invariant.world c.requires.decision.within c.world.view_is c.index-state.ensures) i)
 
 pub add_mass-requires-clause-fits : goal.add_mass-requires-clause-fits
 add_mass-requires-clause-fits c =
-    code_mass c.args.diagram.now c.states-states.ensures.diagram c.args.profile.now c.requires.profile c.args.decision c.goals_of-marks.result (goals_are_utilities _ _ _ c.goals_of-marks.ensures) (goals_marked _ _ _ c.goals_of-marks.ensures) c.requires.fits c.worlds.gains c.worlds.masses c.worlds.world c.worlds.invariant c.world_weight-weight.result c.world_weight-weight.ensures.weight (to_z w128 (of_z w128 c.world_gain-gain.result)) (to_z-of_z w128 c.world_gain-gain.result (search rules) ∙ c.world_gain-gain.ensures) c.row-row.result c.index-state.result.now (c.row-row.result * c.states-states.result + c.index-state.result.now) c.row-row.ensures (state_read c.args.diagram.now.nodes c.world.inside.states.items c.worlds.world c.args.decision c.index-state.result.now c.worlds.invariant.world c.requires.decision.within c.world.view_is c.index-state.ensures)
+    code_mass c.args.diagram.now c.states-states.ensures.diagram c.args.profile.now c.requires.profile c.args.decision c.goals_of-marks.result (goals_are_utilities _ _ _ c.goals_of-marks.ensures) (goals_marked _ _ _ c.goals_of-marks.ensures) c.requires.fits c.worlds.gains c.worlds.masses c.worlds.world c.worlds.invariant c.world_weight-weight.result c.world_weight-weight.ensures.weight (to_z w128 (of_z w128 c.world_gain-gain.result)) (to_z-of_z w128 c.world_gain-gain.result (record { sfits = c.world_gain-gain.type_inv }) ∙ c.world_gain-gain.ensures) c.row-row.result c.index-state.result.now (c.row-row.result * c.states-states.result + c.index-state.result.now) c.row-row.ensures (state_read c.args.diagram.now.nodes c.world.inside.states.items c.worlds.world c.args.decision c.index-state.result.now c.worlds.invariant.world c.requires.decision.within c.world.view_is c.index-state.ensures)
     (λ i. c.row-row.ensures i * c.states-states.ensures.states i + (state_read c.args.diagram.now.nodes c.world.inside.states.items c.worlds.world c.args.decision c.index-state.result.now c.worlds.invariant.world c.requires.decision.within c.world.view_is c.index-state.ensures) i)
 
 pub returns-then-not-next-clause-gains : goal.returns-then-not-next-clause-gains
 returns-then-not-next-clause-gains c =
-    base_gains c.args.diagram.now c.states-states.ensures.diagram c.args.profile.now c.requires.profile c.args.decision c.goals_of-marks.result (goals_are_utilities _ _ _ c.goals_of-marks.ensures) (goals_marked _ _ _ c.goals_of-marks.ensures) c.requires.fits c.worlds.gains c.worlds.masses c.worlds.world c.worlds.invariant c.world_weight-weight.result c.world_weight-weight.ensures.weight (to_z w128 (of_z w128 c.world_gain-gain.result)) (to_z-of_z w128 c.world_gain-gain.result (search rules) ∙ c.world_gain-gain.ensures) c.row-row.result c.index-state.result.now (c.row-row.result * c.states-states.result + c.index-state.result.now) c.row-row.ensures (state_read c.args.diagram.now.nodes c.world.inside.states.items c.worlds.world c.args.decision c.index-state.result.now c.worlds.invariant.world c.requires.decision.within c.world.view_is c.index-state.ensures)
+    base_gains c.args.diagram.now c.states-states.ensures.diagram c.args.profile.now c.requires.profile c.args.decision c.goals_of-marks.result (goals_are_utilities _ _ _ c.goals_of-marks.ensures) (goals_marked _ _ _ c.goals_of-marks.ensures) c.requires.fits c.worlds.gains c.worlds.masses c.worlds.world c.worlds.invariant c.world_weight-weight.result c.world_weight-weight.ensures.weight (to_z w128 (of_z w128 c.world_gain-gain.result)) (to_z-of_z w128 c.world_gain-gain.result (record { sfits = c.world_gain-gain.type_inv }) ∙ c.world_gain-gain.ensures) c.row-row.result c.index-state.result.now (c.row-row.result * c.states-states.result + c.index-state.result.now) c.row-row.ensures (state_read c.args.diagram.now.nodes c.world.inside.states.items c.worlds.world c.args.decision c.index-state.result.now c.worlds.invariant.world c.requires.decision.within c.world.view_is c.index-state.ensures)
     (λ i. c.row-row.ensures i * c.states-states.ensures.states i + (state_read c.args.diagram.now.nodes c.world.inside.states.items c.worlds.world c.args.decision c.index-state.result.now c.worlds.invariant.world c.requires.decision.within c.world.view_is c.index-state.ensures) i)
-    c.add_gain.new.gains c.add_mass.new.masses c.add_gain.ensures c.add_mass.ensures (c.if-not-next.ensures.last (search rules))
+    c.add_gain.new.gains c.add_mass.new.masses c.add_gain.ensures c.add_mass.ensures (c.if-not-next.ensures.last refl)
 
 pub returns-then-not-next-clause-masses : goal.returns-then-not-next-clause-masses
 returns-then-not-next-clause-masses c =
-    base_masses c.args.diagram.now c.states-states.ensures.diagram c.args.profile.now c.requires.profile c.args.decision c.goals_of-marks.result (goals_are_utilities _ _ _ c.goals_of-marks.ensures) (goals_marked _ _ _ c.goals_of-marks.ensures) c.requires.fits c.worlds.gains c.worlds.masses c.worlds.world c.worlds.invariant c.world_weight-weight.result c.world_weight-weight.ensures.weight (to_z w128 (of_z w128 c.world_gain-gain.result)) (to_z-of_z w128 c.world_gain-gain.result (search rules) ∙ c.world_gain-gain.ensures) c.row-row.result c.index-state.result.now (c.row-row.result * c.states-states.result + c.index-state.result.now) c.row-row.ensures (state_read c.args.diagram.now.nodes c.world.inside.states.items c.worlds.world c.args.decision c.index-state.result.now c.worlds.invariant.world c.requires.decision.within c.world.view_is c.index-state.ensures)
+    base_masses c.args.diagram.now c.states-states.ensures.diagram c.args.profile.now c.requires.profile c.args.decision c.goals_of-marks.result (goals_are_utilities _ _ _ c.goals_of-marks.ensures) (goals_marked _ _ _ c.goals_of-marks.ensures) c.requires.fits c.worlds.gains c.worlds.masses c.worlds.world c.worlds.invariant c.world_weight-weight.result c.world_weight-weight.ensures.weight (to_z w128 (of_z w128 c.world_gain-gain.result)) (to_z-of_z w128 c.world_gain-gain.result (record { sfits = c.world_gain-gain.type_inv }) ∙ c.world_gain-gain.ensures) c.row-row.result c.index-state.result.now (c.row-row.result * c.states-states.result + c.index-state.result.now) c.row-row.ensures (state_read c.args.diagram.now.nodes c.world.inside.states.items c.worlds.world c.args.decision c.index-state.result.now c.worlds.invariant.world c.requires.decision.within c.world.view_is c.index-state.ensures)
     (λ i. c.row-row.ensures i * c.states-states.ensures.states i + (state_read c.args.diagram.now.nodes c.world.inside.states.items c.worlds.world c.args.decision c.index-state.result.now c.worlds.invariant.world c.requires.decision.within c.world.view_is c.index-state.ensures) i)
-    c.add_gain.new.gains c.add_mass.new.masses c.add_gain.ensures c.add_mass.ensures (c.if-not-next.ensures.last (search rules))
+    c.add_gain.new.gains c.add_mass.new.masses c.add_gain.ensures c.add_mass.ensures (c.if-not-next.ensures.last refl)
 
 pub returns-then-not-next-clause-gains_small : goal.returns-then-not-next-clause-gains_small
 returns-then-not-next-clause-gains_small c =
-    base_gains_small c.args.diagram.now c.states-states.ensures.diagram c.args.profile.now c.requires.profile c.args.decision c.goals_of-marks.result (goals_are_utilities _ _ _ c.goals_of-marks.ensures) (goals_marked _ _ _ c.goals_of-marks.ensures) c.requires.fits c.worlds.gains c.worlds.masses c.worlds.world c.worlds.invariant c.world_weight-weight.result c.world_weight-weight.ensures.weight (to_z w128 (of_z w128 c.world_gain-gain.result)) (to_z-of_z w128 c.world_gain-gain.result (search rules) ∙ c.world_gain-gain.ensures) c.row-row.result c.index-state.result.now (c.row-row.result * c.states-states.result + c.index-state.result.now) c.row-row.ensures (state_read c.args.diagram.now.nodes c.world.inside.states.items c.worlds.world c.args.decision c.index-state.result.now c.worlds.invariant.world c.requires.decision.within c.world.view_is c.index-state.ensures)
+    base_gains_small c.args.diagram.now c.states-states.ensures.diagram c.args.profile.now c.requires.profile c.args.decision c.goals_of-marks.result (goals_are_utilities _ _ _ c.goals_of-marks.ensures) (goals_marked _ _ _ c.goals_of-marks.ensures) c.requires.fits c.worlds.gains c.worlds.masses c.worlds.world c.worlds.invariant c.world_weight-weight.result c.world_weight-weight.ensures.weight (to_z w128 (of_z w128 c.world_gain-gain.result)) (to_z-of_z w128 c.world_gain-gain.result (record { sfits = c.world_gain-gain.type_inv }) ∙ c.world_gain-gain.ensures) c.row-row.result c.index-state.result.now (c.row-row.result * c.states-states.result + c.index-state.result.now) c.row-row.ensures (state_read c.args.diagram.now.nodes c.world.inside.states.items c.worlds.world c.args.decision c.index-state.result.now c.worlds.invariant.world c.requires.decision.within c.world.view_is c.index-state.ensures)
     (λ i. c.row-row.ensures i * c.states-states.ensures.states i + (state_read c.args.diagram.now.nodes c.world.inside.states.items c.worlds.world c.args.decision c.index-state.result.now c.worlds.invariant.world c.requires.decision.within c.world.view_is c.index-state.ensures) i)
     c.add_gain.new.gains c.add_mass.new.masses c.add_gain.ensures c.add_mass.ensures
 
 pub returns-then-not-next-clause-masses_small : goal.returns-then-not-next-clause-masses_small
 returns-then-not-next-clause-masses_small c =
-    base_masses_small c.args.diagram.now c.states-states.ensures.diagram c.args.profile.now c.requires.profile c.args.decision c.goals_of-marks.result (goals_are_utilities _ _ _ c.goals_of-marks.ensures) (goals_marked _ _ _ c.goals_of-marks.ensures) c.requires.fits c.worlds.gains c.worlds.masses c.worlds.world c.worlds.invariant c.world_weight-weight.result c.world_weight-weight.ensures.weight (to_z w128 (of_z w128 c.world_gain-gain.result)) (to_z-of_z w128 c.world_gain-gain.result (search rules) ∙ c.world_gain-gain.ensures) c.row-row.result c.index-state.result.now (c.row-row.result * c.states-states.result + c.index-state.result.now) c.row-row.ensures (state_read c.args.diagram.now.nodes c.world.inside.states.items c.worlds.world c.args.decision c.index-state.result.now c.worlds.invariant.world c.requires.decision.within c.world.view_is c.index-state.ensures)
+    base_masses_small c.args.diagram.now c.states-states.ensures.diagram c.args.profile.now c.requires.profile c.args.decision c.goals_of-marks.result (goals_are_utilities _ _ _ c.goals_of-marks.ensures) (goals_marked _ _ _ c.goals_of-marks.ensures) c.requires.fits c.worlds.gains c.worlds.masses c.worlds.world c.worlds.invariant c.world_weight-weight.result c.world_weight-weight.ensures.weight (to_z w128 (of_z w128 c.world_gain-gain.result)) (to_z-of_z w128 c.world_gain-gain.result (record { sfits = c.world_gain-gain.type_inv }) ∙ c.world_gain-gain.ensures) c.row-row.result c.index-state.result.now (c.row-row.result * c.states-states.result + c.index-state.result.now) c.row-row.ensures (state_read c.args.diagram.now.nodes c.world.inside.states.items c.worlds.world c.args.decision c.index-state.result.now c.worlds.invariant.world c.requires.decision.within c.world.view_is c.index-state.ensures)
     (λ i. c.row-row.ensures i * c.states-states.ensures.states i + (state_read c.args.diagram.now.nodes c.world.inside.states.items c.worlds.world c.args.decision c.index-state.result.now c.worlds.invariant.world c.requires.decision.within c.world.view_is c.index-state.ensures) i)
     c.add_gain.new.gains c.add_mass.new.masses c.add_gain.ensures c.add_mass.ensures
 
 pub worlds-preserved : goal.worlds-preserved
 worlds-preserved c =
-    base_step c.args.diagram.now c.states-states.ensures.diagram c.args.profile.now c.requires.profile c.args.decision c.goals_of-marks.result (goals_are_utilities _ _ _ c.goals_of-marks.ensures) (goals_marked _ _ _ c.goals_of-marks.ensures) c.requires.fits c.worlds.gains c.worlds.masses c.worlds.world c.worlds.invariant c.world_weight-weight.result c.world_weight-weight.ensures.weight (to_z w128 (of_z w128 c.world_gain-gain.result)) (to_z-of_z w128 c.world_gain-gain.result (search rules) ∙ c.world_gain-gain.ensures) c.row-row.result c.index-state.result.now (c.row-row.result * c.states-states.result + c.index-state.result.now) c.row-row.ensures (state_read c.args.diagram.now.nodes c.world.inside.states.items c.worlds.world c.args.decision c.index-state.result.now c.worlds.invariant.world c.requires.decision.within c.world.view_is c.index-state.ensures)
+    base_step c.args.diagram.now c.states-states.ensures.diagram c.args.profile.now c.requires.profile c.args.decision c.goals_of-marks.result (goals_are_utilities _ _ _ c.goals_of-marks.ensures) (goals_marked _ _ _ c.goals_of-marks.ensures) c.requires.fits c.worlds.gains c.worlds.masses c.worlds.world c.worlds.invariant c.world_weight-weight.result c.world_weight-weight.ensures.weight (to_z w128 (of_z w128 c.world_gain-gain.result)) (to_z-of_z w128 c.world_gain-gain.result (record { sfits = c.world_gain-gain.type_inv }) ∙ c.world_gain-gain.ensures) c.row-row.result c.index-state.result.now (c.row-row.result * c.states-states.result + c.index-state.result.now) c.row-row.ensures (state_read c.args.diagram.now.nodes c.world.inside.states.items c.worlds.world c.args.decision c.index-state.result.now c.worlds.invariant.world c.requires.decision.within c.world.view_is c.index-state.ensures)
     (λ i. c.row-row.ensures i * c.states-states.ensures.states i + (state_read c.args.diagram.now.nodes c.world.inside.states.items c.worlds.world c.args.decision c.index-state.result.now c.worlds.invariant.world c.requires.decision.within c.world.view_is c.index-state.ensures) i)
-    c.add_gain.new.gains c.add_mass.new.masses c.add_gain.ensures c.add_mass.ensures c.next.new.self c.if-not-next.ensures.world (c.if-not-next.ensures.more (search rules))
+    c.add_gain.new.gains c.add_mass.new.masses c.add_gain.ensures c.add_mass.ensures c.next.new.self c.if-not-next.ensures.world (c.if-not-next.ensures.more refl)

@@ -1,4 +1,4 @@
-use Rattle.std.proofs.Common.{◌≡◌, ◌≤◌, arith, rules, pos, subst, sym, length}
+use Rattle.std.proofs.Common.{◌≡◌, ◌≤◌, arith, refl, pos, subst, sym, length}
 use Rattle.std.specs.Int.{w128}
 use Rattle.std.specs.Int.RustNames.{FitsSigned}
 use mir.Val.{to_z}
@@ -30,20 +30,20 @@ world_gain-sum-requires-clause-fits c =
 
 pub overflow_add-sum : goal.overflow_add-sum
 overflow_add-sum c =
-    let f : FitsSigned w128 c.world_gain-sum.result = search rules in
+    let f : FitsSigned w128 c.world_gain-sum.result = record { sfits = c.world_gain-sum.type_inv } in
     bits_fit c.args.diagram.now c.count-nothing.ensures.diagram c.args.profile.now c.requires.profile c.args.agent c.utilities_of-marks.result c.utilities_of-marks.ensures.utilities c.utilities_of-marks.ensures.marks c.requires.fits (to_z w128 c.worlds.sum-bits) c.worlds.world c.worlds.invariant c.world_weight-weight.result (subst (λ n. pos c.world_weight-weight.result ≡ weight_in c.args.diagram.now.nodes c.args.profile.now n c.worlds.world) c.count-nothing.ensures.count c.world_weight-weight.ensures.weight) c.world_gain-sum.result c.world_gain-sum.ensures f
 
 pub returns-then-not-next-clause-sum : goal.returns-then-not-next-clause-sum
 returns-then-not-next-clause-sum c =
-    let f : FitsSigned w128 c.world_gain-sum.result = search rules in
-    leaves_end c.args.diagram.now c.count-nothing.ensures.diagram c.args.profile.now c.requires.profile c.args.agent c.utilities_of-marks.result c.utilities_of-marks.ensures.utilities c.utilities_of-marks.ensures.marks c.requires.fits (to_z w128 c.worlds.sum-bits) c.worlds.world c.worlds.invariant c.world_weight-weight.result (subst (λ n. pos c.world_weight-weight.result ≡ weight_in c.args.diagram.now.nodes c.args.profile.now n c.worlds.world) c.count-nothing.ensures.count c.world_weight-weight.ensures.weight) c.world_gain-sum.result c.world_gain-sum.ensures f (c.if-not-next.ensures.last (search rules))
+    let f : FitsSigned w128 c.world_gain-sum.result = record { sfits = c.world_gain-sum.type_inv } in
+    leaves_end c.args.diagram.now c.count-nothing.ensures.diagram c.args.profile.now c.requires.profile c.args.agent c.utilities_of-marks.result c.utilities_of-marks.ensures.utilities c.utilities_of-marks.ensures.marks c.requires.fits (to_z w128 c.worlds.sum-bits) c.worlds.world c.worlds.invariant c.world_weight-weight.result (subst (λ n. pos c.world_weight-weight.result ≡ weight_in c.args.diagram.now.nodes c.args.profile.now n c.worlds.world) c.count-nothing.ensures.count c.world_weight-weight.ensures.weight) c.world_gain-sum.result c.world_gain-sum.ensures f (c.if-not-next.ensures.last refl)
 
 pub returns-then-not-next-clause-small : goal.returns-then-not-next-clause-small
 returns-then-not-next-clause-small c =
-    let f : FitsSigned w128 c.world_gain-sum.result = search rules in
+    let f : FitsSigned w128 c.world_gain-sum.result = record { sfits = c.world_gain-sum.type_inv } in
     leaves_small c.args.diagram.now c.count-nothing.ensures.diagram c.args.profile.now c.requires.profile c.args.agent c.utilities_of-marks.result c.utilities_of-marks.ensures.utilities c.utilities_of-marks.ensures.marks c.requires.fits (to_z w128 c.worlds.sum-bits) c.worlds.world c.worlds.invariant c.world_weight-weight.result (subst (λ n. pos c.world_weight-weight.result ≡ weight_in c.args.diagram.now.nodes c.args.profile.now n c.worlds.world) c.count-nothing.ensures.count c.world_weight-weight.ensures.weight) c.world_gain-sum.result c.world_gain-sum.ensures f
 
 pub worlds-preserved : goal.worlds-preserved
 worlds-preserved c =
-    let f : FitsSigned w128 c.world_gain-sum.result = search rules in
-    leaves_step c.args.diagram.now c.count-nothing.ensures.diagram c.args.profile.now c.requires.profile c.args.agent c.utilities_of-marks.result c.utilities_of-marks.ensures.utilities c.utilities_of-marks.ensures.marks c.requires.fits (to_z w128 c.worlds.sum-bits) c.worlds.world c.worlds.invariant c.world_weight-weight.result (subst (λ n. pos c.world_weight-weight.result ≡ weight_in c.args.diagram.now.nodes c.args.profile.now n c.worlds.world) c.count-nothing.ensures.count c.world_weight-weight.ensures.weight) c.world_gain-sum.result c.world_gain-sum.ensures f c.next.new.self c.if-not-next.ensures.world (c.if-not-next.ensures.more (search rules))
+    let f : FitsSigned w128 c.world_gain-sum.result = record { sfits = c.world_gain-sum.type_inv } in
+    leaves_step c.args.diagram.now c.count-nothing.ensures.diagram c.args.profile.now c.requires.profile c.args.agent c.utilities_of-marks.result c.utilities_of-marks.ensures.utilities c.utilities_of-marks.ensures.marks c.requires.fits (to_z w128 c.worlds.sum-bits) c.worlds.world c.worlds.invariant c.world_weight-weight.result (subst (λ n. pos c.world_weight-weight.result ≡ weight_in c.args.diagram.now.nodes c.args.profile.now n c.worlds.world) c.count-nothing.ensures.count c.world_weight-weight.ensures.weight) c.world_gain-sum.result c.world_gain-sum.ensures f c.next.new.self c.if-not-next.ensures.world (c.if-not-next.ensures.more refl)

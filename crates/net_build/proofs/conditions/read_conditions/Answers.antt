@@ -1,6 +1,6 @@
 -- A name's rows are the first of those still to come.
-use Rattle.std.proofs.Common.{get_or}
-use Rattle.std.proofs.lemmas.List.{get_or_default}
+use Rattle.std.proofs.Common.{get_or, ap, map, ◌∙◌}
+use Rattle.std.proofs.lemmas.List.{get_or_default, take_all}
 use Rattle.net_build.specs.Blocks.{no_token}
 use Rattle.net_build.specs.Linking.{node_named, condition_steps, conditions_steps}
 use Rattle.first_fault.proofs.HandedOn.{hands_on}
@@ -18,3 +18,6 @@ loop-place-preserved c = record {
   nodes = map_more (node_named c.args.text.now c.args.names.now) c.args.conditions.now _ _ c.loop-place.place (get_or c.args.conditions.now c.loop-place.place no_token) _ c.loop-place-test.true (get_or_default _ _ _ _ c.loop-place-test.true) c.in_ok-read_condition.ensures.node c.loop-place.invariant.nodes c.in_ok-push.ensures.items;
   lead = behind_on (condition_steps c.args.text.now c.args.names.now c.args.heads.now) c.args.conditions.now _ c.loop-place.place (get_or c.args.conditions.now c.loop-place.place no_token) c.loop-place-test.true (get_or_default _ _ _ _ c.loop-place-test.true) c.loop-place.invariant.lead c.in_ok-read_condition.ensures.rows;
 }
+
+pub returns-clause-nodes : goal.returns-clause-nodes
+returns-clause-nodes c = c.loop-place.invariant.nodes ∙ ap (map (node_named c.args.text.now c.args.names.now)) (take_all c.loop-place.place c.args.conditions.now c.loop-place-test.false)

@@ -7,10 +7,11 @@ use Rattle.first_fault.specs.Passes.{only}
 use Rattle.net_lexer.specs.Token.{token_bytes}
 use Rattle.std.proofs.lemmas.List.{length-map}
 use Rattle.std.proofs.lemmas.Result.{IfOk-from_err}
-use Rattle.std.proofs.Common.{◌≡◌, ◌*◌, length, ap, ◌∙◌, rules}
+use Rattle.std.proofs.Common.{◌≡◌, ◌*◌, length, map, ap, sym, subst, ◌∙◌, rules}
 use Rattle.first_fault.specs.Answers.{IsFaultOrNoMemory}
 use Rattle.net_build.specs.Passes.{build_fault}
-use Rattle.net_build.specs.TableParts.{data_part, number_rows, weight_part}
+use Rattle.net_build.specs.TableParts.{IsDraftOf, data_part, number_rows, weight_part}
+use Rattle.net_build.specs.declared.drafts.Draft.TheVariants.{Cells}
 use Rattle.net_parser.specs.Trees.{AttributeTree}
 use Rattle.net_build.proofs.DraftLemmas.{chance_refused, chance_clear, same_count, divides_by}
 use Rattle.net_build.proofs.drafts.read_cells.Goals as goal
@@ -55,3 +56,9 @@ weights-requires-clause-len c = ap length c.deref.ensures.value ∙ c.in_ok-deci
 
 pub returns-in_err-cells-in-Chance-clause-draft : goal.returns-in_err-cells-in-Chance-clause-draft
 returns-in_err-cells-in-Chance-clause-draft c = IfOk-from_err _ _ c.from_residual-in_err-cells-in-Chance.ensures.0
+
+pub returns-in_ok-cells-in-Chance-clause-draft : goal.returns-in_ok-cells-in-Chance-clause-draft
+returns-in_ok-cells-in-Chance-clause-draft c =
+    let bytes = map (token_bytes c.args.text.now) c.args.numerals.now in
+    let count : length c.deref.result.now ≡ c.args.rows * c.args.head.now.states = ap length c.deref.ensures.value ∙ c.in_ok-decimals.ensures.decimals.len ∙ length-map c.args.numerals.now (token_bytes c.args.text.now) ∙ ap length c.requires.numerals ∙ same_count _ _ c.in_ok-decimals.ensures.rows.1.0 in
+    subst (λ k. IsDraftOf k c.args.rows c.args.head.now.states bytes (Cells c.in_ok-cells-in-Chance.cells)) (sym c.in-Chance.is) (c.deref.result.now, rw c.deref.ensures.value c.in_ok-decimals.ensures.decimals, c.in_ok-cells-in-Chance.ensures.weighed, count)

@@ -1,4 +1,4 @@
-use Rattle.std.proofs.Common.{◌≡◌, ◌<◌, length, All, subst, sym, rules}
+use Rattle.std.proofs.Common.{◌≡◌, ◌<◌, ◌++◌, ◌∙◌, ℕ, List, length, All, ap, subst, sym, rules}
 use Rattle.report_text.proofs.Parents.{order_named}
 use Rattle.report_text.proofs.report.print_report.Goals as goal
 
@@ -6,3 +6,14 @@ pub push_order-requires : goal.push_order-requires
 push_order-requires c =
     let same : c.deref.result.now ≡ c.args.solved.now.order = search rules in
     subst (λ list. All (λ v. v < length c.args.names.now.nodes) list) (sym same) (order_named c.args.diagram.now c.args.names.now c.args.solved.now c.requires.names c.requires.solved)
+
+-- the pieces, each behind those before
+glued : (title order decisions gains a b c d : List ℕ) → a ≡ title → b ≡ a ++ order → c ≡ b ++ decisions → d ≡ c ++ gains → d ≡ ((title ++ order) ++ decisions) ++ gains
+glued title order decisions gains a b c d p q r s = s ∙ ap (λ x. x ++ gains) (r ∙ ap (λ x. x ++ decisions) (q ∙ ap (λ x. x ++ order) p))
+
+pub returns : goal.returns
+returns c =
+    let order = rw c.deref.ensures.value at c.in_ok-push_order.ensures in
+    let decisions = rw c.deref-2.ensures.value at c.in_ok-push_decisions.ensures in
+    let gains = rw c.deref-3.ensures.value at c.in_ok-push_gains.ensures in
+    rw (← c.solved.view_is) (glued _ _ _ _ _ _ _ _ c.in_ok-out.ensures.items order decisions gains)

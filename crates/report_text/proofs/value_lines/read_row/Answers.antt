@@ -28,7 +28,7 @@ returns-in_default-behind c row is e =
     let rest = behind_is c.args.line.now c.deref.result.now (row_front c.args.diagram.now.nodes c.args.names.now c.args.decision c.args.number) c.in-Some.state_on.now wanted c.in-Some.ensures front e in
     let choice = subst (λ n. row.choice < n) (sym c.states.ensures.states) is.choice in
     let same = c.in-Some-read_state.ensures.value row.choice (quoted (label_of c.args.names.now c.args.decision row.choice) ++ worth_text row.worth) choice (rest ∙ append_assoc (decimal (row.choice + 1)) _ _) in
-    let state : c.deref-2.result.now ≡ state_text c.args.names.now c.args.decision c.in-Some-read_state.choice = search rules in
+    let state : c.deref-2.result.now ≡ state_text c.args.names.now c.args.decision c.in-Some-read_state.choice = c.deref-2.ensures.value ∙ c.in_ok-push_state.ensures ∙ ap (λ xs. xs ++ state_text c.args.names.now c.args.decision c.in-Some-read_state.choice) c.clear-2.ensures.items in
     c.in_default-behind.ensures (worth_text row.worth) (rest ∙ ap (λ x. x ++ worth_text row.worth) (sym (state ∙ ap (state_text c.args.names.now c.args.decision) same)))
 
 pub returns-in-None : goal.returns-in-None

@@ -1,8 +1,14 @@
-use Rattle.std.proofs.Common.{◌≡◌, ◌∙◌, ℕ, List, [], ◌∷◌, ◌++◌, Some, subst, sym, ap}
+use Rattle.std.proofs.Common.{◌≡◌, ◌∙◌, ℕ, List, [], ◌∷◌, ◌++◌, Some, IfOk, subst, sym, ap}
 use Rattle.maid_model.specs.Nodes.{parents_of}
-use Rattle.size_precheck.specs.Sizes.{CanBePlanned}
+use Rattle.size_precheck.specs.Sizes.{CanBePlanned, IsMade}
 use Rattle.size_precheck.proofs.Measuring.{gain_planned, on_ok}
 use Rattle.size_precheck.proofs.kinds.gain_by.Goals as goal
+
+pub returns-clause-made : goal.returns-clause-made
+returns-clause-made c =
+    let nodes = c.args.diagram.now.nodes in
+    let keep : c.deref.result.now ≡ c.args.decision ∷ parents_of nodes c.args.decision = c.deref.ensures.value ∙ c.in_ok-extend_from_slice.ensures.items ∙ ap (λ (xs : List ℕ). xs ++ c.parents-parents.result.now) (c.in_ok-push.ensures.items ∙ ap (λ (xs : List ℕ). xs ++ c.args.decision ∷ []) c.in_ok-keep.ensures.items) ∙ ap (λ (xs : List ℕ). c.args.decision ∷ xs) c.parents-parents.ensures.parents in
+    subst (λ (xs : List ℕ). IfOk c.plan_by.result (IsMade nodes (record { keep = xs; without = Some c.args.decision; utility = Some c.args.goal }))) keep c.plan_by.ensures
 
 pub plan_by-requires-clause-asked : goal.plan_by-requires-clause-asked
 plan_by-requires-clause-asked c =

@@ -1,7 +1,10 @@
-use Rattle.std.proofs.Common.{ℕ, List, subst, sym}
-use Rattle.size_precheck.specs.Sizes.{CanBePlanned}
+use Rattle.std.proofs.Common.{ℕ, List, IfOk, subst, sym}
+use Rattle.size_precheck.specs.Sizes.{CanBePlanned, IsMade}
 use Rattle.size_precheck.proofs.Measuring.{keeps, row_planned, on_ok}
 use Rattle.size_precheck.proofs.kinds.rows_by.Goals as goal
+
+pub returns-clause-made : goal.returns-clause-made
+returns-clause-made c = subst (λ (xs : List ℕ). IfOk c.plan_by.result (IsMade c.args.diagram.now.nodes (keeps xs))) c.parents-parents.ensures.parents c.plan_by.ensures
 
 pub plan_by-requires-clause-asked : goal.plan_by-requires-clause-asked
 plan_by-requires-clause-asked c =

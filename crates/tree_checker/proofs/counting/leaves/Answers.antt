@@ -1,6 +1,6 @@
 use Rattle.std.proofs.Common.{◌≡◌, ◌∙◌, ℕ, ◌+◌, ◌*◌, min, sym, ap, subst, arith}
 use Rattle.maid_model.specs.declared.limits.TheConstants.{COUNT_END}
-use Rattle.tree_checker.proofs.ProductSteps.{CountedSoFar, count_step}
+use Rattle.tree_checker.proofs.ProductSteps.{CountedSoFar, count_end, count_start, count_step}
 use Rattle.tree_checker.proofs.counting.leaves.Goals as goal
 
 pub loop-v-preserved : goal.loop-v-preserved
@@ -12,3 +12,9 @@ loop-v-preserved c =
   where
     turn : (a e : ℕ) → min a e ≡ min e a
     turn a e = omega arith
+
+pub loop-v-init : goal.loop-v-init
+loop-v-init c = count_start c.args.diagram.now.nodes
+
+pub returns : goal.returns
+returns c = count_end c.args.diagram.now.nodes c.count-v-end.ensures.diagram.graph.has_state c.loop-v.count c.loop-v.v c.loop-v.invariant (let h = c.loop-v-test.false in omega (arith, h, c.count-v-end.ensures.count))

@@ -1,6 +1,10 @@
 use Rattle.std.proofs.Common.{arith, ◌-◌}
-use Rattle.maid_model.proofs.Next.{code_more, code_back, code_world}
+use Rattle.maid_model.specs.Nodes.{counts_of}
+use Rattle.maid_model.proofs.Next.{code_more, code_back, code_world, so_far_none}
 use Rattle.maid_model.proofs.worlds.World.next.Goals as goal
+
+pub loop-v-init : goal.loop-v-init
+loop-v-init c = so_far_none (counts_of c.args.diagram.now.nodes) c.args.self.now c.self.inside.states.items _ c.requires.len c.self.view_is (omega arith)
 
 pub overflow_sub-last : goal.overflow_sub-last
 overflow_sub-last c = omega (arith, c.states-last.ensures.diagram.graph.has_state (c.loop-v.v - 1))
