@@ -7,7 +7,8 @@ The gate (`rt ci`) runs at TOP, or where this script stands; where crates are na
 below them are tried, so that it may be timed in parts. While it runs, the processor times of all checks
 are read twice a second, and each counts for its crate as proof, as tests or as must-fail edits; what a
 check does in its last half second is lost. The gate's own lines go to standard output, and behind them a
-table in minutes of processor time, the most expensive crate first. The status is the gate's.
+table in minutes of processor time, the most expensive crate first, and the seconds of the most expensive
+edits. The status is the gate's.
 """
 
 import os
@@ -17,6 +18,7 @@ import threading
 import time
 
 TICKS = os.sysconf("SC_CLK_TCK")
+MOST_EDITS = 40
 
 
 def words_of(process):
@@ -61,6 +63,38 @@ def task_of(words, folder):
     return crate, "tests" if "--test" in words else "proof"
 
 
+def text_of(path):
+    """The text of a file, none where there is no such file."""
+    try:
+        with open(path, encoding="utf-8", errors="replace") as text:
+            return text.read()
+    except OSError:
+        return None
+
+
+def is_applied(edit, folder):
+    """Whether the texts that the edit puts in stand in the folder, and those that it takes away don't."""
+    path, old = "", ""
+    for line in (text_of(edit) or "").splitlines():
+        word, _, rest = line.partition(": ")
+        if word == "file":
+            path = rest
+        elif word == "old":
+            old = rest
+        elif line.startswith("new:"):
+            text = text_of(os.path.join(folder, path))
+            if text is None or rest not in text or (old not in rest and old in text):
+                return False
+    return True
+
+
+def edit_of(top, crate, folder):
+    """The edit of the crate that a check in the folder tries, none where it is checked as it stands."""
+    edits = os.path.join(top, "crates", crate, "must-fail")
+    names = sorted(name for name in os.listdir(edits) if name.endswith(".edit"))
+    return next((name for name in names if is_applied(os.path.join(edits, name), folder)), None)
+
+
 def below(process, ancestor):
     while process not in ("0", "1"):
         if process == ancestor:
@@ -69,8 +103,8 @@ def below(process, ancestor):
     return False
 
 
-def sample(gate, found):
-    """Notes the processor time of each check below the gate, while it runs."""
+def sample(gate, top, found, edits):
+    """Notes the processor time of each check below the gate, and which edit it tries, while it runs."""
     while gate.poll() is None:
         for process in filter(str.isdigit, os.listdir("/proc")):
             words = words_of(process)
@@ -79,14 +113,18 @@ def sample(gate, found):
             # A forked copy has its parent's words, and counts for it once it has ended.
             if words_of(parent_of(process)) == words:
                 continue
-            task = task_of(words, folder_of(process))
-            found[process, task] = max(found.get((process, task), 0.0), seconds_of(process))
+            folder = folder_of(process)
+            task = task_of(words, folder)
+            if task[1] == "edits" and (process, folder) not in edits:
+                edits[process, folder] = edit_of(top, task[0], folder)
+            key = process, folder, task
+            found[key] = max(found.get(key, 0.0), seconds_of(process))
         time.sleep(0.5)
 
 
 def print_table(found):
     crates = {}
-    for (_, (crate, part)), seconds in found.items():
+    for (_, _, (crate, part)), seconds in found.items():
         parts = crates.setdefault(crate, {"proof": 0.0, "tests": 0.0, "edits": 0.0})
         parts[part] += seconds / 60
     print("\n| crate | proof | tests | edits | together |\n|---|---|---|---|---|")
@@ -97,6 +135,17 @@ def print_table(found):
     print_row("all", total)
 
 
+def print_edits(found, edits):
+    times = {}
+    for (process, folder, (crate, _)), seconds in found.items():
+        name = edits.get((process, folder))
+        if name is not None:
+            times[crate, name] = times.get((crate, name), 0.0) + seconds
+    print("\n| edit | seconds |\n|---|---|")
+    for (crate, name), seconds in sorted(times.items(), key=lambda row: -row[1])[:MOST_EDITS]:
+        print(f"| `{crate}/{name}` | {seconds:.0f} |")
+
+
 def print_row(name, parts):
     numbers = [parts["proof"], parts["tests"], parts["edits"], sum(parts.values())]
     print(f"| {name} | " + " | ".join(f"{number:.1f}" for number in numbers) + " |")
@@ -104,13 +153,14 @@ def print_row(name, parts):
 
 def main():
     top = sys.argv[1] if len(sys.argv) > 1 else os.path.join(os.path.dirname(__file__), "..")
-    found = {}
+    found, edits = {}, {}
     gate = subprocess.Popen(["rt", "ci", *sys.argv[2:]], cwd=top)
-    watch = threading.Thread(target=sample, args=(gate, found))
+    watch = threading.Thread(target=sample, args=(gate, top, found, edits))
     watch.start()
     status = gate.wait()
     watch.join()
     print_table(found)
+    print_edits(found, edits)
     sys.exit(status)
 
 
