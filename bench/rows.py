@@ -1,13 +1,12 @@
 #!/usr/bin/env python3
 """Writes crates/worked_rows/stdin and stdout from worked rows given as data.
 
-    bench/rows.py CHANGES ROWS.json..
+usage: rows.py
 
-The rows of our own are bench/more_rows.json, each with why it is there. What must come is taken from
-the data alone and never from the program. CHANGES are the numbers of the changes made so far, as in
-`11,15`: all up to 11, and 15. A row holds from the change that makes it to the last before the one that
-ends it. To take up a new form of words, add it to FORMS and run this again. Of a row that tells only that a line is among those of `out`,
-no more than the status and `err` are compared.
+The rows are those that came with the specification, bench/specified_rows.json, and those of our own,
+bench/more_rows.json, each with why it is there. What must come is taken from the data alone and never
+from the program. A row that tells neither the whole of `out` nor its first or last line has no more than
+the status and `err` compared.
 
 Rows that share their words and some files are given once with these, and `each` has what differs.
 
@@ -19,21 +18,10 @@ No row is left out for its time: each ends within a second.
 
 import json
 import os
-import sys
 
-# The first words of the forms that `maid_app::run` has.
-FORMS = [
-    "solve", "graph", "print", "check", "trim", "info", "control", "demo", "pure", "update", "given",
-    "threshold",
-]
-
-# The first words of all forms, those to come too. A row of other words must end with the usage line.
-ALL_FORMS = [
-    "solve", "graph", "print", "check", "trim", "info", "control", "demo", "pure", "update", "given",
-    "threshold",
-]
-
-CRATE = os.path.join(os.path.dirname(os.path.abspath(__file__)), "..", "crates", "worked_rows")
+BENCH = os.path.dirname(os.path.abspath(__file__))
+CRATE = os.path.join(BENCH, "..", "crates", "worked_rows")
+DATA = ("specified_rows.json", "more_rows.json")
 
 
 def escaped(text):
@@ -99,27 +87,17 @@ def single(rows):
             yield {**row, **own, "files": row["files"] + own["files"]}
 
 
-def is_taken(row, changes):
-    first = row["words"][0] if row["words"] else ""
-    begun = row.get("from", 0) in changes
-    ended = row.get("to") is not None and row["to"] + 1 in changes
-    return begun and not ended and (first in FORMS or first not in ALL_FORMS)
-
-
 def main():
-    whole_up_to, *alone = map(int, sys.argv[1].split(","))
-    changes = {*range(whole_up_to + 1), *alone}
     rows = []
-    for name in sys.argv[2:]:
-        with open(name, encoding="utf-8") as file:
+    for name in DATA:
+        with open(os.path.join(BENCH, name), encoding="utf-8") as file:
             rows += single(json.load(file)["rows"])
     # Of rows that run on the same, the one that tells most counts.
     runs = {}
     for row in rows:
-        if is_taken(row, changes):
-            given, parts = tuple(given_lines(row)), told(row)
-            if given not in runs or len(parts) > len(runs[given][2]):
-                runs[given] = (row["words"], row["status"], parts)
+        given, parts = tuple(given_lines(row)), told(row)
+        if given not in runs or len(parts) > len(runs[given][2]):
+            runs[given] = (row["words"], row["status"], parts)
     stdin = ["# Written by bench/rows.py; src/main.rt says how to read it.", ""]
     stdout = []
     seen = {}
