@@ -69,7 +69,7 @@ pub fn plain_total(cells: &[i128], states: usize) -> Option<u128>
         return None;
     }
     let total = plain_row(row_at(cells, states, 0))?;
-    for r in 0..cells.len() / states {
+    for r in 1..cells.len() / states {
         if plain_row(row_at(cells, states, r))? != total {
             return None;
         }

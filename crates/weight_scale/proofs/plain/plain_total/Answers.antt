@@ -50,7 +50,9 @@ pub returns-in_err-total-clause-faultless : goal.returns-in_err-total-clause-fau
 returns-in_err-total-clause-faultless c = rw c.from_residual.ensures tt
 
 pub loop-r-init : goal.loop-r-init
-loop-r-init c k l = absurd (omega (arith, l))
+loop-r-init c k l =
+    let first = rw c.row_at.ensures.row at c.in_ok-total.ensures.some in
+    subst (λ r. IsPlainRow (row_at c.args.states c.args.cells.now r) c.in_ok-total.total) (omega (arith, l)) first
 
 pub row_at-requires-in-loop-r-clause-positive : goal.row_at-requires-in-loop-r-clause-positive
 row_at-requires-in-loop-r-clause-positive c = c.requires.states
