@@ -140,8 +140,8 @@ fn the_first_line_that_fails_is_named(rt: HostRuntime) -> Result<(), Fail> {
         (never, 5, rejected(7, Cause::Never)),
         (right, 3, rejected(8, Cause::Gain)),
     ];
-    for (rows, gain, expected) in reports {
-        assert_eq!(rt; verdict_on(rt.alloc(), rows, gain)?, Some(expected));
+    for (rows, gain, want) in reports {
+        assert_eq!(rt; verdict_on(rt.alloc(), rows, gain)?, Some(want));
     }
     Ok(())
 }

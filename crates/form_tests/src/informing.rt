@@ -45,27 +45,21 @@ fn says(line: &InfoLine, from: usize, (has, value): (bool, (i128, u128))) -> boo
 }
 
 /// Whether the lines are those of the first three nodes, and say this of them.
-fn say(lines: &[InfoLine], expected: [(bool, (i128, u128)); 3]) -> bool {
+fn say(lines: &[InfoLine], want: [(bool, (i128, u128)); 3]) -> bool {
     match lines {
         [first, second, third] => {
-            says(first, 0, expected[0])
-                && says(second, 1, expected[1])
-                && says(third, 2, expected[2])
+            says(first, 0, want[0]) && says(second, 1, want[1]) && says(third, 2, want[2])
         }
         _ => false,
     }
 }
 
 /// Whether this is said of a guess that may be told of both coins.
-fn is_said(
-    alloc: Global,
-    told: bool,
-    expected: [(bool, (i128, u128)); 3],
-) -> Result<bool, SolveFault> {
+fn is_said(alloc: Global, told: bool, want: [(bool, (i128, u128)); 3]) -> Result<bool, SolveFault> {
     let diagram = diagram(alloc, told)?;
     let solved = solve(alloc, &diagram)?;
     let lines = info(alloc, &diagram, &solved, 0)?;
-    Ok(say(&lines, expected))
+    Ok(say(&lines, want))
 }
 
 // Told of both the guess is always right, and else half of the time. The second coin itself tells all there is to know.

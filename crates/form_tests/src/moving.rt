@@ -90,8 +90,8 @@ fn dry(alloc: Global) -> Result<Result<Interval, SpanFault>, SolveFault> {
 // above 11/18 drilling without a test is worth less than nought.
 #[test]
 fn a_well_may_be_dry(rt: HostRuntime) -> Result<(), Fail> {
-    let expected = interval((1, 2), (27, 59), (11, 18));
-    assert_eq!(rt; dry(rt.alloc())?, Ok(expected));
+    let want = interval((1, 2), (27, 59), (11, 18));
+    assert_eq!(rt; dry(rt.alloc())?, Ok(want));
     Ok(())
 }
 

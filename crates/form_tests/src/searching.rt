@@ -109,12 +109,12 @@ fn whole(num: i128) -> Ratio {
 fn is_found(
     alloc: Global,
     diagram: &Diagram,
-    expected: &[usize],
+    want: &[usize],
     gains: &[Ratio],
 ) -> Result<bool, PureFault> {
     let found = first_pure(alloc, diagram)?;
     let chosen = choices(alloc, &found.answers)?;
-    Ok(chosen.as_slice() == expected && found.gains.as_slice() == gains)
+    Ok(chosen.as_slice() == want && found.gains.as_slice() == gains)
 }
 
 /// Why no equilibrium is found, if none is.

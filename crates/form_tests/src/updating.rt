@@ -74,9 +74,9 @@ fn row(choice: usize) -> Row {
 }
 
 /// Whether the answers are of these decisions, and have these rows.
-fn are_answered(answers: &[Answer], expected: &[(usize, &[Row])]) -> bool {
-    let mut same = answers.len() == expected.len();
-    for (answer, (decision, rows)) in answers.iter().zip(expected) {
+fn are_answered(answers: &[Answer], want: &[(usize, &[Row])]) -> bool {
+    let mut same = answers.len() == want.len();
+    for (answer, (decision, rows)) in answers.iter().zip(want) {
         same = same && answer.decision == *decision && answer.rows.as_slice() == *rows;
     }
     same

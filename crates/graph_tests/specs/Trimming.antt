@@ -4,7 +4,7 @@ use Rattle.std.specs.Prelude.{ℕ, Bool, true, false, List, [], ◌∷◌, ℤ, 
 use Rattle.maid_model.specs.Views.{DiagramView, diagram_of}
 use Rattle.sample_diagrams.specs.Nodes.{chance_node, decision_node, utility_node}
 
--- a node of two states, or of one alone
+-- one state alone, or two
 abbrev pub states_if : Bool → ℕ
 states_if true = 1
 states_if false = 2

@@ -25,8 +25,8 @@ fn diagram(alloc: Global) -> Result<Diagram, AllocError>
     sample_diagram(alloc, &nodes, 2, 0)
 }
 
-/// Whether the diagram without the first node's arc has the decision see the second node alone, and the part that leads to the
-/// utility has that node, the decision and the utility.
+/// Whether the diagram without the first node's arc has the decision see the second node alone, and the part that leads
+/// to the utility has that node, the decision and the utility.
 fn is_cut(alloc: Global) -> Result<bool, RemoveFault> {
     let whole = diagram(alloc)?;
     let less = remove_arc(alloc, &whole, 0, 2)?;
@@ -67,8 +67,8 @@ fn faults(alloc: Global) -> Result<[Option<AddFault>; 2], AllocError> {
 
 #[test]
 fn an_arc_can_not_be_added(rt: HostRuntime) -> Result<(), Fail> {
-    let expected = [Some(AddFault::Present), Some(AddFault::WouldCycle)];
-    assert_eq!(rt; faults(rt.alloc())?, expected);
+    let want = [Some(AddFault::Present), Some(AddFault::WouldCycle)];
+    assert_eq!(rt; faults(rt.alloc())?, want);
     Ok(())
 }
 

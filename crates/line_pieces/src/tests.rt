@@ -1,4 +1,4 @@
-//! Each call once, over small pieces.
+//! Numbers, strings, fractions and several pieces in one call; names are tested in the lines above.
 
 use super::*;
 use maid_model::Ratio;

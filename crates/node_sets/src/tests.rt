@@ -45,6 +45,8 @@ fn holds_what_was_added(rt: HostRuntime) {
     assert_eq!(rt; set.first_from(1), Some(63));
     assert_eq!(rt; set.first_from(101), Some(255));
     assert_eq!(rt; set.first_from(256), None);
+    assert_eq!(rt; set.first_between(1, 63), None);
+    assert_eq!(rt; set.first_between(1, 64), Some(63));
 }
 
 #[test]

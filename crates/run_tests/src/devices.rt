@@ -23,7 +23,7 @@ const RUNS: [(&str, u64); 12] = [
     ("demo 2", 0),
 ];
 
-// The same forms without their file, but `demo`, which has none; and with a count that it refuses.
+// The same forms, each of a file that is not there; `demo`, which reads none, has a count that it refuses.
 const REFUSED: [(&str, Status, &str); 12] = [
     ("solve gone.net", Status::Absent, ABSENT),
     ("graph gone.net", Status::Absent, ABSENT),

@@ -90,7 +90,7 @@ fn compare_total(rt: &impl Abort, cells: &[i128], states: usize, total: Option<u
     assert_eq!(rt; plain_total(cells, states), total, "{cells:?}");
 }
 
-// So is a row without a plain total.
+// And rows without a plain total have none.
 #[test]
 fn plain_rows_have_their_total(rt: HostRuntime) {
     compare_total(&rt, &[1, 2, 3, 0], 4, Some(6));

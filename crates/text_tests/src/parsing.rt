@@ -46,15 +46,15 @@ fn nested(alloc: Global, depth: usize) -> Result<String, Fail> {
 }
 
 // Whether the text has that outline.
-fn has_outline(alloc: Global, text: &str, wanted: &str) -> Result<bool, Fail> {
+fn has_outline(alloc: Global, text: &str, want: &str) -> Result<bool, Fail> {
     let found = outline(alloc, text.as_bytes())?;
-    Ok(found.as_str() == wanted)
+    Ok(found.as_str() == want)
 }
 
 // Each of the texts has the outline of its row.
 fn compare(rt: &impl Abort, alloc: Global, rows: &[(&str, &str)]) -> Result<(), Fail> {
-    for &(text, wanted) in rows {
-        assert!(rt; has_outline(alloc, text, wanted)?, "{text}");
+    for &(text, want) in rows {
+        assert!(rt; has_outline(alloc, text, want)?, "{text}");
     }
     Ok(())
 }
