@@ -20,7 +20,7 @@ UnreachedRule = (nodes : List NodeView) (p q : List RuleView) (d agent : ℕ) �
     → ((v : ℕ) → IsDecision nodes v → v ≢ d → SameRule p q v) → IsUnreached nodes agent d
     → gain_of nodes p agent *ℤ pos (mass nodes q) ≡ gain_of nodes q agent *ℤ pos (mass nodes p)
 
--- The diagram in which a chance node is a decision is a diagram.
+-- With a chance node as a decision a graph with chance tables stays one; its rules may pass the limits.
 abbrev pub KeptAsDecision : Type 0
 KeptAsDecision = (nodes : List NodeView) (agent x : ℕ) → IsGraph nodes → HasChanceTables nodes
     → (node_at nodes x).kind ≡ Chance

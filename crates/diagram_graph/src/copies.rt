@@ -42,6 +42,10 @@ pub(crate) fn with_nodes(diagram: &Diagram, nodes: Vec<Node>) -> Diagram
 }
 
 /// A copy of the diagram. It takes the time and the memory of all cells.
+///
+/// # Errors
+///
+/// Only where memory runs out.
 pub fn copy_diagram(alloc: Global, diagram: &Diagram) -> Result<Diagram, AllocError>
     ensures { IfOk result (λ copy. copy ≡ diagram.now) }
 {

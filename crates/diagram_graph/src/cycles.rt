@@ -9,6 +9,10 @@ use std::alloc::{AllocError, Global};
 
 /// All nodes in an order with parents first: each time the first node in text whose parents all stand before it. It
 /// goes over all nodes once for each node, which is a few tens of thousands of looks for the greatest diagram.
+///
+/// # Errors
+///
+/// Only where memory runs out.
 pub fn topological(alloc: Global, diagram: &Diagram) -> Result<Vec<usize>, AllocError>
     ensures { IfOk result (λ order. IsNodeOrder diagram.now.nodes order.items) }
 {
@@ -23,6 +27,10 @@ pub fn topological(alloc: Global, diagram: &Diagram) -> Result<Vec<usize>, Alloc
 /// remaining parents are taken away until none is left to take. From the first remaining node it goes each time to the
 /// first remaining parent in the node's own list; the cycle is the list from the first visit of the node that comes
 /// twice. It goes over all nodes once for each node.
+///
+/// # Errors
+///
+/// Only where memory runs out.
 pub fn first_cycle(alloc: Global, parents: &[Vec<usize>]) -> Result<Option<Vec<usize>>, AllocError>
     requires { (u v : ℕ) → ListedArc (lists_in parents.now) u v → u < length parents.now }
     ensures cycle { IfOk result (TellsCycle (lists_in parents.now)) }

@@ -178,6 +178,10 @@ fn fixed_node(
 /// The diagram in which only the agent decides: each decision of another agent is a chance node with weight 1 on the
 /// answered choice of each row and 0 elsewhere. It takes the time and the memory of a copy of all cells, and of the
 /// cells of the other agents' rules.
+///
+/// # Errors
+///
+/// Only where memory runs out.
 pub fn fix_others(
     alloc: Global,
     diagram: &Diagram,

@@ -119,6 +119,10 @@ fn part_nodes(alloc: Global, diagram: &Diagram, kept: &[usize]) -> Result<Vec<No
 /// agent's, where the part has all its utilities: `part_laws::law_of_parts`.
 ///
 /// It goes over all arcs a few times, and takes the time and the memory of a copy of the kept cells.
+///
+/// # Errors
+///
+/// Only where memory runs out.
 pub fn part(alloc: Global, diagram: &Diagram, of: &[usize]) -> Result<SubDiagram, AllocError>
     requires { (v : ℕ) → Contains of.now v → v < length diagram.now.nodes }
     ensures nodes { IfOk result (HasPartNodes diagram.now of.now) }

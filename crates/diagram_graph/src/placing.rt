@@ -123,6 +123,10 @@ fn place_in<N: Needs>(
 /// Each step looks at the items from the first on, and at the needs of one that is not placed up to the first that is
 /// not placed either: at most as many looks as items times all needs, and about the square of the number of items where
 /// items mostly stand after what they need.
+///
+/// # Errors
+///
+/// Only where memory runs out.
 pub fn place_all<N: Needs>(alloc: Global, needs: &N, items: &[bool]) -> Result<Placing, AllocError>
     requires items_len { length items.now ≡ length (N.lists needs.now) }
     requires needs { NeedsItems (N.lists needs.now) items.now }

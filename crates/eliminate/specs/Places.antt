@@ -14,7 +14,7 @@ slots_from p i (s ∷ ss) = (if p i then s ∷ [] else []) ++ slots_from p (suc 
 abbrev pub live_slots : NodeSet → ℕ → List Slot → List Slot
 live_slots live made slots = slots_from (holds live) 0 (take made slots)
 
--- so many slots stand, at the places that are live
+-- the live slots, in the order of their places
 abbrev pub slots_at : Places → List Slot → List Slot
 slots_at places slots = live_slots places.live places.made slots
 

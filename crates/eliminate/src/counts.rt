@@ -12,7 +12,7 @@ use maid_model::{COUNT_END, Diagram};
 use node_sets::NodeSet;
 
 /// How many cells a call may append, and how much work it may do: at each step the cells of the joined set times the
-/// number of tables joined.
+/// number of tables joined, and at the end the cells of the product times the number of tables multiplied.
 #[derive(Clone, Copy, Debug, PartialEq, Eq)]
 pub struct Limits {
     pub cells: usize,

@@ -80,13 +80,13 @@ pub record Appends {C : Type 0} (before after : WorkspaceView C) (first len : �
   pub longer : length after.cells ≡ length before.cells + len
   pub less : before.spare ≡ after.spare + len
 
--- the slots that were live are, with the tables that they had
+-- the slot, which was live, is live, with the table that it had
 pub record StaysLive {C : Type 0}
     (r : Ring C) (nodes : List NodeView) (before after : List C) (slot : Slot) : Type 0 where
   pub live : IsLiveSlot nodes after slot
   pub table : table_of r nodes after slot ≡ table_of r nodes before slot
 
--- so do all that were live
+-- so are all that were live
 abbrev pub AllStayLive : {C : Type 0} → Ring C → List NodeView → List C → List C → Type 0
 AllStayLive r nodes before after =
     (s : Slot) → IsLiveSlot nodes before s → StaysLive r nodes before after s
@@ -108,7 +108,7 @@ join_of r nodes v cells slots = sum_out r (states_of nodes) v (tables_of r nodes
 abbrev pub product_of_slots : {C : Type 0} → Ring C → List NodeView → List C → List Slot → Table C
 product_of_slots r nodes cells slots = product_table r (tables_of r nodes cells slots)
 
--- the same behind the used cells of a list, of which the slot's are used then
+-- what was appended to a workspace, told of a list whose first cells are used: those of the slot are used then too
 abbrev pub Behind : {C : Type 0} → List C → List C → ℕ → Slot
     → (WorkspaceView C → WorkspaceView C → Slot → Type 0) → Type 0
 Behind before after used slot Appended =

@@ -123,11 +123,6 @@ abbrev pub HasJoin : {C : Type 0}
 HasJoin r cells counts slots x scope out = (w : World) → InRange (states_in counts) w
     → cell_at r out (place_of counts scope w) ≡ join_cell r cells counts slots x w
 
--- a cell of a slot with x summed out: the sum of its cells over the states of x
-abbrev pub sum_cell : {C : Type 0} → Ring C → List C → List ℕ → Slot → ℕ → World → C
-sum_cell r cells counts slot x w = ring_sum r (states_in counts x) (λ s.
-    cell_at r cells (slot.start + place_of counts slot.scope (with_state w x s)))
-
 -- a cell of a product: the product of the slots' cells
 abbrev pub product_cell : {C : Type 0} → Ring C → List C → List ℕ → List Slot → World → C
 product_cell r cells counts slots w = product_at r cells (places_in counts slots w)

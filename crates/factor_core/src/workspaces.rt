@@ -220,7 +220,8 @@ impl<C: Cell> Workspace<C> {
         strip
     }
 
-    /// The slot's cell at these states of its nodes, the lowest node first.
+    /// The slot's cell at these states of its nodes, the lowest node first. It reads the counts of states of all nodes anew
+    /// at each call.
     pub fn at(&self, diagram: &Diagram, slot: &Slot, states: &[usize]) -> C
         requires live { IsLiveSlot diagram.now.nodes self.now.cells slot.now }
         requires states { AreStatesOf diagram.now.nodes slot.now states.now }

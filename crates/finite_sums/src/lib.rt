@@ -1,5 +1,6 @@
 //! Finite sums of whole numbers over the states of listed nodes, and their lemmas, which the crates above cite from
-//! `proofs/`. Nothing here knows of diagrams: a world is a function from numbers to states.
+//! `proofs/`; and the values of a list in order of first sight. Nothing here knows of diagrams: a world is a function
+//! from numbers to states.
 #![tactic(auto)]
 
 ghost use Rattle.finite_sums.specs.Laws.{ShuffledSums, SumsMultiply, TotalsComeOut};

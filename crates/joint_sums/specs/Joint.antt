@@ -37,11 +37,11 @@ abbrev pub joint_sum :
 joint_sum c nodes p d us q = ring_sum_over c.ring (states_of nodes) (joint_summed nodes d)
     (product_of c.ring (joint_tables c nodes p d us)) q
 
--- the greatest size of a utility's cells
+-- what bounds the sizes of a utility's cells: twice the greater of 1 and its greatest absolute value
 abbrev pub value_bound : List NodeView → ℕ → ℕ
 value_bound nodes u = 2 * max 1 (greatest_abs (node_at nodes u).cells)
 
--- the product of the totals of the tables, and of the sizes of the utilities
+-- the product of the totals of the tables, and of what bounds the utilities' cells
 abbrev pub joint_bound : List NodeView → List RuleView → ℕ → List ℕ → ℕ
 joint_bound nodes p d us = nat_product_over (weight_total nodes p) (joint_ruled nodes d)
     * nat_product_over (value_bound nodes) us

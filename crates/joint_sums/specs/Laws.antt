@@ -34,7 +34,7 @@ RunsJoint c = (nodes : List NodeView) (p : List RuleView) (d : ℕ) (us steps : 
     ≡ joint_sum c nodes p d us q
 
 -- Sizes: in each step all partial products and sums, and the products at the end, are at most the product of the totals
--- of the tables and of the greatest sizes of the utilities.
+-- of the tables and of what bounds the cells of the utilities.
 abbrev pub JointFits : {C : Type 0} → Cells C → (C → ℕ) → Type 0
 JointFits c size = (nodes : List NodeView) (p : List RuleView) (d : ℕ) (us steps : List ℕ)
     → IsGraph nodes → HasChanceTables nodes → IsProfile nodes p → AreGoals nodes d us

@@ -22,8 +22,7 @@ pub record HasPure (d : DiagramView) (names : NamesView) (printed : List ℕ) : 
   pub stable : IsStable d found
   pub is : printed ≡ pure_text d names found
 
--- the diagram keeps the weight bound in each scope, its profiles and worlds can be listed, and one of the profiles is
--- an
+-- the diagram keeps the weight bound in each scope, its profiles and worlds can be listed, and one of the profiles is an
 -- equilibrium
 pub record HasFirstPure (d : DiagramView) : Type 0 where
   pub bound : KeepsScopedBounds d

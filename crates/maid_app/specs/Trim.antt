@@ -10,7 +10,7 @@ use Rattle.maid_app.specs.Stages.{text_fault}
 use Rattle.maid_app.specs.Tasks.{Task, text_task}
 use Rattle.std.specs.Global.{Vec}
 
--- A line for each arc that is not requisite, in order of removal, and then the text of the diagram
+-- A line for each arc that trimming removes, in order of removal, and then the text of the diagram
 -- without these arcs. The lines are comments: the whole text stands for the trimmed diagram, which
 -- has the same optimum where one agent owns all decisions (`optimum` of `IsTrimming`).
 pub record HasTrim (d : DiagramView) (names : NamesView) (told : List ℕ) : Type 0 where

@@ -25,7 +25,9 @@ use std::alloc::{AllocError, Global};
 /// A file's name and its bytes.
 #[derive(Clone, Copy)]
 pub struct Source<'a> {
+    /// The name that lines tell.
     pub name: &'a str,
+    /// All bytes of the text.
     pub bytes: &'a [u8],
 }
 

@@ -19,10 +19,10 @@ use app_lines::demo_text;
 use maid_io::{Opened, ReadAllFault, Shelf, Sink, read_all, write_all};
 use std::alloc::Global;
 
-// The most bytes of a diagram's text.
+/// The most bytes of a diagram's text.
 pub const LIMIT: usize = 4_194_304;
 
-// The most bytes of a report's text.
+/// The most bytes of a report's text.
 pub const REPORT_LIMIT: usize = 67_108_864;
 
 // The refusal that tells the line of these two pieces. The line takes memory, which may run out.

@@ -22,13 +22,13 @@ pub enum Status {
     Cycle,
     /// The diagram's weights may be too great for exact numbers.
     WeightBound,
-    /// Solving the diagram would take too many cells of tables or too much work.
+    /// A limit is passed: of a run's cells or work, of worlds, of pure profiles, or of rules.
     TooLarge,
     /// `out` couldn't be written.
     WriteFault,
     /// Memory ran out.
     NoMemory,
-    /// The report isn't the diagram's answer.
+    /// The report is not accepted: one of its lines is wrong.
     Rejected,
     /// No node has that agent.
     UnknownAgent,

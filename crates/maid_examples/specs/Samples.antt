@@ -12,34 +12,12 @@ abbrev pub decision : ℕ → List ℕ → NodeView
 decision owner parents =
     record { kind = Decision; owner = owner; more = []; states = 2; parents = parents; cells = [] }
 
--- a chance node that sees node 0
-abbrev pub chance_below : ℕ → List ℤ → NodeView
-chance_below states cells = record {
-  kind = Chance;
-  owner = 0;
-  more = [];
-  states = states;
-  parents = 0 ∷ [];
-  cells = cells;
-}
-
 -- what the agent gets for the parents' states
 abbrev pub pay : ℕ → List ℕ → List ℤ → NodeView
 pay owner parents cells = record {
   kind = Utility;
   owner = owner;
   more = [];
-  states = 1;
-  parents = parents;
-  cells = cells;
-}
-
--- what the agents 0 and 1 both get
-abbrev pub shared_pay : List ℕ → List ℤ → NodeView
-shared_pay parents cells = record {
-  kind = Utility;
-  owner = 0;
-  more = 1 ∷ [];
   states = 1;
   parents = parents;
   cells = cells;

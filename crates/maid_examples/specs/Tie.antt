@@ -51,8 +51,8 @@ pub record AreSound : Type 0 where
   pub first : IsProfile uneven (taking 1 0)
   pub second : IsProfile uneven (taking 0 1)
 
--- Of two states of worth 5 the first is the answer. The second is accepted too, if its worth and the gain are right;
--- no answer without a row is.
+-- Of two states of worth 5 the first is the answer. The second is accepted too, if its worth and the gain are right; a
+-- row that is marked as never reached is not.
 pub record HasTie : Type 0 where
   pub answer : IsAnswer tie_diagram (report (reached 0 5) (pos 5))
   pub second_is_none : IsAnswer tie_diagram (report (reached 1 5) (pos 5)) → ⊥

@@ -1,4 +1,5 @@
-//! The program's own sums, worlds and reliance on the small diagrams: what was worked out by hand.
+//! The sums over all worlds, the worlds and the reliance that the code finds on the small diagrams: what was worked out
+//! by hand.
 
 ghost use Rattle.maid_model.specs.Profiles.{HasRule};
 

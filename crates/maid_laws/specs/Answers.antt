@@ -81,8 +81,8 @@ WorthInBase = (nodes : List NodeView) (s base : List RuleView) (v state row scal
     × (IsLive nodes v → IsWorthAt nodes scale base v state row w
     → IsWorthAt nodes scale s v state row w)
 
--- In a row that the answered profile reaches, the row's worth is the expected utility below the decision under that
--- profile itself.
+-- In a row of a live decision that the answered profile reaches, the row's worth is the expected utility below the
+-- decision under that profile itself.
 abbrev pub WorthUnderTheProfile : Type 0
 WorthUnderTheProfile = (d : DiagramView) (solved : SolvedView) → IsGraph d.nodes
     → HasChanceTables d.nodes → IsAnswer d solved → KeepsWorth d solved

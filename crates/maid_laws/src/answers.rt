@@ -35,8 +35,8 @@ pub fn one_answer()
     ensures one { OneAnswer }
 {}
 
-/// A row that a profile reaches is worth under the profile itself what it is worth against the base, and so is a row
-/// of an answer.
+/// A row of a live decision that a profile reaches is worth under the profile itself what it is worth against the base,
+/// and so is a row of an answer.
 pub fn worth_under_the_profile()
     ensures base { WorthInBase }
     ensures answer { WorthUnderTheProfile }

@@ -1,5 +1,4 @@
--- Diagrams that differ in one place: an arc more or less, a chance node under an agent's control, decisions of others
--- as chance nodes.
+-- Edited diagrams: an arc more or less, a chance node under an agent's control, decisions of others as chance nodes.
 use Rattle.std.specs.Prelude.{ℕ, List, [], ◌∷◌, ◌++◌, map, filter, ◌==◌, not, pos, if◌then◌else◌, slice_set}
 use Rattle.maid_model.specs.declared.diagrams.Kind.{Kind}
 use Rattle.maid_model.specs.declared.diagrams.Kind.TheVariants.{Chance, Decision, Utility}
@@ -47,7 +46,7 @@ made_decision nodes agent x =
       cells = [];
     }
 
--- the chance node x is that decision
+-- the diagram in which the node x is that decision
 abbrev pub as_decision : List NodeView → ℕ → ℕ → List NodeView
 as_decision nodes agent x = slice_set nodes x (made_decision nodes agent x)
 

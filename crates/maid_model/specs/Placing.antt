@@ -26,7 +26,7 @@ pub record IsOrder (Item : ℕ → Type 0) (Needs : ℕ → ℕ → Type 0) (ord
   pub placing : IsPlacing Item Needs order
   pub complete : (v : ℕ) → Item v → Contains order v
 
--- from the first that is left, each time to the first that is left of those that the last one needs
+-- from the first that is left, each time to the first that is left of those that the last one needs; none comes twice
 pub record IsTrail (Left : ℕ → Type 0) (Needs : ℕ → ℕ → Type 0) (trail : List ℕ) : Type 0 where
   pub first : 0 < length trail → IsLeast Left (slice_index trail 0)
   pub next : (k : ℕ) → k + 1 < length trail

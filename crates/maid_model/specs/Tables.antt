@@ -62,7 +62,7 @@ pub record IsTable (cells : List ℤ) (rows states total : ℕ) : Type 0 where
   pub row : (r : ℕ) → r < rows
       → sum_below states (λ s. slice_index_or cells (r * states + s) (pos 0)) ≡ pos total
 
--- each chance table has one positive total
+-- each chance node's cells are a table of one positive total
 pub record HasChanceTables (nodes : List NodeView) : Type 0 where
   pub positive : (v : ℕ) → (node_at nodes v).kind ≡ Chance → 0 < chance_total nodes v
   pub table : (v : ℕ) → (node_at nodes v).kind ≡ Chance

@@ -9,7 +9,8 @@ use Rattle.maid_model.specs.Answers.{IsReduced, IsExpectedUtility}
 use Rattle.maid_model.specs.Subgames.{OwnsAll, IsOptimal}
 use Rattle.maid_model.specs.Edits.{without_arc, with_arc, as_decision, one_agent}
 
--- the fraction that is the agent's expected utility under some profile, and that no profile's exceeds
+-- where the agent owns all decisions: the fraction that is its expected utility under some profile, and that no
+-- profile's exceeds
 pub record IsOptimum (nodes : List NodeView) (decimals agent : ℕ) (r : Ratio) : Type 0 where
   pub alone : OwnsAll nodes agent
   pub best : List RuleView

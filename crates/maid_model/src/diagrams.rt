@@ -81,7 +81,8 @@ impl Diagram {
         }
     }
 
-    /// How many nodes there are.
+    /// How many nodes there are. Who must know that what it holds is a diagram calls it for that clause alone:
+    /// `let _count = diagram.count();`.
     pub fn count(&self) -> usize
         ensures count { result ≡ length self.now.nodes }
         ensures diagram { IsDiagram self.now }

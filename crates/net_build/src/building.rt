@@ -130,7 +130,7 @@ pub fn build(
     ensures form { IfOk result (λ built. HasTextForm built.0 built.1) }
     ensures plain { IfOk result (λ built. IsPlain built.0) }
 {
-    // The blocks that the tokens spell have all of them that is needed.
+    // Blocks that tokens of the text spell stand in it, which is all that is needed of the tokens.
     let _ = tokens;
     blocks_stand_in_their_text();
     let nodes = read_nodes(alloc, text, syntax)?;

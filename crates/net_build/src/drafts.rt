@@ -85,7 +85,8 @@ fn read_leaves(
     read_cells(alloc, text, head, rows, table, numerals)
 }
 
-// The table in the value of `data`. Only where lists stand in one another are its leaves listed anew.
+// The table in the value of `data`. The leaves of a list without a list inside are lent; those of any other value are
+// listed anew.
 fn read_data(
     alloc: Global,
     text: &[u8],

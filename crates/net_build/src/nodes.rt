@@ -150,7 +150,7 @@ fn state_count(text: &[u8], block: &Block<'_>, labels: &[Vec<u8>]) -> usize
     }
 }
 
-// What a node block says behind those of these names and agents. Its agent is added where it is new.
+// What a node block says behind those of these names and agents. Each owner is added to the agents where it is new.
 fn read_entry(
     alloc: Global,
     text: &[u8],

@@ -169,7 +169,7 @@ fn finish(alloc: Global, drafts: Vec<Draft>, scale: u32) -> Result<Vec<Vec<i128>
 }
 
 /// The tables of chance nodes and utilities, in text order, and then the utilities' values to one scale. A chance table
-/// is scaled row by row, and a utility value is a whole number of the least power of ten that makes all of them whole.
+/// is scaled row by row, and each utility value is multiplied by the least power of ten that makes all of them whole.
 /// The cost is linear in the text. Where a value doesn't fit, the head of each potential is looked up among the nodes
 /// besides.
 pub fn read_tables(

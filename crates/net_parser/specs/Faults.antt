@@ -33,7 +33,7 @@ pub record Stops (tokens before rest : List Lexeme) : Type 0 where
   pub possible : IsPossible before
   pub wrong : IsWrong before rest
 
--- words that begin blocks of other profiles
+-- words that begin blocks which other tools read and this grammar lacks
 pub record IsForeignWord (l : Lexeme) : Type 0 where
   pub is : IsWord (codes "continuous") l ⊎ IsWord (codes "function") l ⊎ IsWord (codes "class") l
       ⊎ IsWord (codes "instance") l
@@ -54,7 +54,7 @@ pub record IsModelAttribute (before : List Lexeme) (l : Lexeme) : Type 0 where
       (name : Lexeme) → IsName name → (IsModelName name → ⊥) → IsPossible (before ++ name ∷ [])
   pub word : IsModelName l
 
--- what the impossible token is, behind those before
+-- the impossible token is the word of such a block, `function` in the place of `node`, or a model's word as a name
 abbrev pub IsUnsupported : List Lexeme → List Lexeme → Type 0
 IsUnsupported before [] = ⊥
 IsUnsupported before (l ∷ after) =

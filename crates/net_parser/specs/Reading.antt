@@ -38,7 +38,7 @@ node_kind word = if bytes_eq word (codes "node")
     then Some Decision
     else (if bytes_eq word (codes "utility") then Some Utility else None))
 
--- a word that begins a block of another profile
+-- a word that begins a block which other tools read and this grammar lacks
 abbrev pub is_foreign : List ℕ → Bool
 is_foreign word = bytes_eq word (codes "continuous") || bytes_eq word (codes "function")
     || bytes_eq word (codes "class") || bytes_eq word (codes "instance")

@@ -102,8 +102,8 @@ fn follow<G: Graph>(graph: &G, way: Way, set: &mut NodeSet)
     'sweeps: while sweep_twice(graph, way, set) {}
 }
 
-/// These nodes, and all to which a path of arcs leads from one of them. It goes over all arcs a few times; where parents
-/// stand before their children, twice.
+/// These nodes, and all to which a path of arcs leads from one of them. Where parents stand
+/// before their children it goes over all arcs twice, and else at worst once for each node that it adds and once more.
 pub fn descendants<G: Graph>(graph: &G, of: NodeSet) -> NodeSet
     ensures { (v : ℕ) → IsIn result v ↔ LeadsFrom (ParentArc (G.parents_of graph.now)) (IsIn of) v }
 {
@@ -112,8 +112,8 @@ pub fn descendants<G: Graph>(graph: &G, of: NodeSet) -> NodeSet
     set
 }
 
-/// These nodes, and all from which a path of arcs leads to one of them. It goes over all arcs a few times; where parents
-/// stand before their children, twice.
+/// These nodes, and all from which a path of arcs leads to one of them. Where parents stand
+/// before their children it goes over all arcs twice, and else at worst once for each node that it adds and once more.
 pub fn ancestors<G: Graph>(graph: &G, of: NodeSet) -> NodeSet
     ensures { (v : ℕ) → IsIn result v ↔ LeadsInto (ParentArc (G.parents_of graph.now)) (IsIn of) v }
 {

@@ -81,7 +81,7 @@ fn search_within(alloc: Global, diagram: &Diagram) -> Result<Pure, PureFault>
 ///
 /// For each agent that decides it goes once through all pure profiles; in each through all rows of the decisions, and by
 /// one walk through those worlds of the part that matters to the agent that have weight under the profile, for which it
-/// lists the part's tables and rules. It keeps two numbers and a mark a profile.
+/// lists the part's tables and rules. It keeps three numbers and a mark for each profile.
 ///
 /// # Errors
 ///

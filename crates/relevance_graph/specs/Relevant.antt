@@ -29,8 +29,8 @@ TellsOutcome view told = MatchResult told (λ order. view.outcome ≡ Ok order.n
 abbrev pub MarksDecisions : List NodeView → List Bool → Type 0
 MarksDecisions nodes marks = (v : ℕ) → IsMarkedIn marks v ↔ IsDecision nodes v
 
--- the relevance graph of a diagram: it tells of each pair of numbers whether the one relies on the other, and lists
--- those on which a decision relies in text order
+-- the relevance graph of a diagram: it tells of each pair of numbers whether the one relies on the other, lists those on
+-- which a decision relies in text order, and has the order of solving or the relevance cycle
 pub record IsRelevance (nodes : List NodeView) (view : RelevanceView) : Type 0 where
   pub count : length view.relied_on ≡ length nodes
   pub pairs : (d e : ℕ) → ReliesTo view d e ↔ ReliesOn nodes d e

@@ -71,6 +71,10 @@ impl Relevance {
 /// The relevance graph of the diagram. It searches once for each decision of two states or more, from all utilities of
 /// its agent that descend from it, which goes over all arcs a few times: decisions times arcs in all, and for the order
 /// or the cycle at most as many looks as there are nodes times pairs of which one relies on the other.
+///
+/// # Errors
+///
+/// Only where memory runs out.
 pub fn find_relevance(alloc: Global, diagram: &Diagram) -> Result<Relevance, AllocError>
     ensures { IfOk result (IsRelevance diagram.now.nodes) }
 {
@@ -79,6 +83,10 @@ pub fn find_relevance(alloc: Global, diagram: &Diagram) -> Result<Relevance, All
 
 /// The same where searches are kept: it searches for no decision of which one is. Each decision is looked for among what
 /// is kept.
+///
+/// # Errors
+///
+/// Only where memory runs out.
 pub fn find_relevance_with(
     alloc: Global,
     diagram: &Diagram,

@@ -19,6 +19,10 @@ pub struct KeptSearch {
 }
 
 /// The searches for the decisions of the diagram, in text order, to be kept for later. It searches once for each.
+///
+/// # Errors
+///
+/// Only where memory runs out.
 pub fn keep_searches(alloc: Global, diagram: &Diagram) -> Result<Vec<KeptSearch>, AllocError>
     ensures decisions { IfOk result (λ kept. KeepsAllSearches diagram.now.nodes kept.items) }
     ensures kept { IfOk result (λ kept. All (IsKeptSearch diagram.now.nodes) kept.items) }

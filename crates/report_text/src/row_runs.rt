@@ -100,7 +100,8 @@ fn push_run(
     Ok(next)
 }
 
-/// Appends a line for each row of an answered decision. It goes over another list of bytes.
+/// Appends a line for each row of an answered decision. `labels` is room for the labels of the row at hand: what it held
+/// is lost.
 pub(crate) fn push_rows(
     out: &mut Vec<u8>,
     labels: &mut Vec<u8>,

@@ -41,6 +41,10 @@ fn without(alloc: Global, diagram: &Diagram, from: usize, to: usize) -> Result<D
 ///
 /// A look searches once for each decision, which goes over all arcs a few times: decisions times arcs for each removed
 /// arc. Each removal copies the diagram.
+///
+/// # Errors
+///
+/// Only where memory runs out.
 pub fn trim(alloc: Global, diagram: &Diagram) -> Result<Trimmed, AllocError>
     ensures { IfOk result (λ t. IsTrimming diagram.now t.diagram t.removed.items) }
 {

@@ -12,7 +12,7 @@ pub record IsKeptDiagram (nodes : List NodeView) (kept : KeptDiagram) : Type 0 w
   pub plans : IsKeptRun nodes kept.plans
   pub searches : All (IsKeptSearch nodes) kept.searches.items
 
--- the plans of so many decisions are kept: of each one, in text order
+-- the plans of each decision are kept, in text order
 abbrev pub KeepsAllPlans : List NodeView → KeptRun → Type 0
 KeepsAllPlans nodes kept = map (λ k. k.decision) kept.decisions.items ≡ decisions_of nodes
 

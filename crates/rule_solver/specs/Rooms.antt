@@ -35,7 +35,7 @@ pub record HasRoomForRun (nodes : List NodeView) (cells : ℕ) : Type 0 where
   pub decisions : (d : ℕ) → IsDecision nodes d → HasRoomForDecision nodes d cells
   pub worths : HasRoomForWorths nodes cells
 
--- the cells of all of a decision's plans take at least so much room
+-- whatever number of cells each of the decision's plans keeps, this one is at most that
 abbrev pub AreNeededForPlans : DecisionPlans → ℕ → Type 0
 AreNeededForPlans plans cells = (n : ℕ) → plans.rows.size.cells ≤ n
     → All (λ plan. plan.size.cells ≤ n) plans.goals.items → cells ≤ n

@@ -100,7 +100,7 @@ abbrev pub IsJointIn : Setting → Joint → Type 0
 IsJointIn s joint = IsJoint s.diagram.now.nodes s.base.now s.decision joint
 
 -- ---- its gains and masses
--- a mass for each row
+-- the masses are those of the rows in the part of the decision's scope
 abbrev pub HasMassesIn : Setting → List ℕ → Type 0
 HasMassesIn s masses = HasMasses s.diagram.now s.base.now s.decision masses
 

@@ -76,7 +76,7 @@ pub record IsSetting
   pub has_totals : HasTotals d.nodes p totals
   pub is_scope : (v : ℕ) → IsIn scope v ↔ Contains (scope_of d.nodes decision) v
 
--- a mass for each row
+-- each mass is that of its row in the part of the decision's scope, and within its P
 pub record HasMasses
     (d : DiagramView) (p : List RuleView) (decision : ℕ) (masses : List ℕ) : Type 0 where
   pub count : length masses ≡ rows_of d.nodes decision

@@ -131,7 +131,7 @@ pub fn solve(alloc: Global, diagram: &Diagram) -> Result<Solved, SolveFault>
     ensures optimal { IfOk result (HasOptimalProfile diagram.now) }
     // So what is printed for such an agent is the optimum of the diagram.
     ensures optimum { IfOk result (PrintsOptima diagram.now) }
-    // In a row that the answered profile reaches, the printed worth is also that under the profile itself.
+    // In a row of a live decision that the answered profile reaches, the printed worth is also that under the profile.
     ensures worth { IfOk result (KeepsWorth diagram.now) }
 {
     answers_are_subgame_perfect();

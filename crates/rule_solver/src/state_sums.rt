@@ -48,7 +48,7 @@ fn run_at<C: Number>(
 /// numbers. Without a utility that is a mass, and not below 0.
 ///
 /// The plan is run once, in workspaces with room for it, which are left as they were found. It may be asked where twice
-/// the product of the plan's totals and of the greatest value of its utility fits 128 bits.
+/// the product of the plan's totals and of the greater of 1 and its utility's greatest absolute value fits 128 bits.
 ///
 /// # Errors
 ///

@@ -54,7 +54,7 @@ pub record IsJointAmong (nodes : List NodeView) (Of : ℕ → Type 0) (y : ℕ) 
   pub set : (u : ℕ) → IsIn joint.set u
       ↔ ((x : ℕ) × Of x × IsOfFamily nodes x y × IsOfFamily nodes x u)
 
--- of the first n nodes one that has a rule: a chance or decision node
+-- one of the first n nodes whose first table has weights: a chance or decision node
 abbrev pub IsRuledBelow : List NodeView → ℕ → ℕ → Type 0
 IsRuledBelow nodes n x = (x < n) × ((node_at nodes x).kind ≢ Utility)
 
@@ -67,7 +67,7 @@ abbrev pub TakesFamily : List NodeView → ℕ → List Joint → List Joint →
 TakesFamily nodes v before after =
     (y : ℕ) → IsJoinedBelow nodes v before y → IsJoinedBelow nodes (v + 1) after y
 
--- one that has a rule: a chance or decision node
+-- one whose first table has weights: a chance or decision node
 abbrev pub IsRuled : List NodeView → ℕ → Type 0
 IsRuled nodes x = IsRuledBelow nodes (length nodes) x
 

@@ -37,7 +37,7 @@ factor states scope u = if scope u then slice_index_or states u 1 else 1
 unfoldable pub member_count : NodeSet → ℕ
 member_count set = members_below (holds set) MOST_NODES
 
--- the cells of a set by the counts of all numbers
+-- the cells of a set by the counts of all numbers, which stop at 10^18
 unfoldable pub counted_over : List ℕ → (ℕ → Bool) → ℕ
 counted_over states scope = stopped (product_below (factor states scope) MOST_NODES)
 
@@ -127,7 +127,7 @@ pub record Tells (live : List Table) (y : ℕ) (joint : Joint) : Type 0 where
   pub set : (u : ℕ) → IsIn joint.set u ↔ SomeOf (λ t. IsIn t.scope y × IsIn t.scope u) live
   pub tables : (x : ℕ) → IsIn joint.tables x ↔ SomeOf (λ t. (t.tag ≡ x) × IsIn t.scope y) live
 
--- the live tables have different tags, each of which is that of a node in the scope or of one that waits no more
+-- the live tables have different tags below MOST_NODES; where a tag's node waits, it is in the table's scope
 pub record AreLive (Waiting : ℕ → Type 0) (live : List Table) : Type 0 where
   pub small : HoldsOfEach (λ t. t.tag < MOST_NODES) live
   pub differ : TagsDiffer live

@@ -140,7 +140,8 @@ fn list_counts(alloc: Global, states: &[u64], joints: &[Joint]) -> Result<Vec<u6
 }
 
 impl Planner {
-    /// What is known of the diagram. It goes over the arcs a few times.
+    /// What is known of the diagram. It goes over the arcs a few times, and as often again for each node of which a parent
+    /// stands behind it in text order.
     pub fn new(alloc: Global, diagram: &Diagram) -> Result<Planner, AllocError>
         ensures planner { IfOk result (IsPlanner diagram.now.nodes) }
         ensures diagram { OnOk result (IsDiagram diagram.now) }

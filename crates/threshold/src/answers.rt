@@ -95,7 +95,7 @@ impl<'a> Question<'a> {
         ))
     }
 
-    /// The same where the answer may surely hold: then the interval stays as it is.
+    /// The same, without a sum where the answer surely holds at all probabilities: then the interval stays as it is.
     fn narrow(
         &self,
         alloc: Global,

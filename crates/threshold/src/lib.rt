@@ -1,4 +1,4 @@
-//! How far one probability of a diagram may move while the printed rules hold: a state's
+//! How far one probability of a diagram may move while the answered rules hold: a state's
 //! probability in one row of a chance node's table goes to any fraction, the other states of the
 //! row share the rest in the proportion of their weights, and the rules hold where in no row of any
 //! decision a state has a greater gain than the answer's choice.

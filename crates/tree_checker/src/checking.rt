@@ -63,9 +63,9 @@ fn check_answers(
 /// row is marked as never reached; and each agent's expected utility is that of the answered rules. Else the verdict
 /// names the first line that fails, and why.
 ///
-/// It takes the relevance graph, and lists for each decision and for each agent the worlds of the part that matters to
-/// it, in each of which it goes over all arcs of that part. It may be asked where each scope keeps the weight bound and
-/// the diagram has no more than 1,048,576 worlds.
+/// It takes the relevance graph, and for each decision and each agent goes by one walk down the nodes of the part that
+/// matters to it: through a node's states once for each choice of states of those before it that has weight. It may be
+/// asked where each scope keeps the weight bound and the diagram has no more than 1,048,576 worlds.
 ///
 /// # Errors
 ///

@@ -32,6 +32,10 @@ fn is_utility_of(diagram: &Diagram, agent: usize, v: usize) -> bool
 }
 
 /// The utilities of the agent, in text order.
+///
+/// # Errors
+///
+/// Only where memory runs out.
 pub fn utilities_of(
     alloc: Global,
     diagram: &Diagram,

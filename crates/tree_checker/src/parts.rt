@@ -19,6 +19,10 @@ pub(crate) struct Stage {
 }
 
 /// The profile's rules at the decisions among the kept nodes, each with its number among them.
+///
+/// # Errors
+///
+/// Only where memory runs out.
 pub fn rules_in_part(
     alloc: Global,
     diagram: &Diagram,

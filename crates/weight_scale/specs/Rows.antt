@@ -9,8 +9,8 @@ use Rattle.weight_scale.specs.declared.scaling.Reduced.{Reduced}
 use Rattle.weight_scale.specs.declared.scaling.ScaleFault.{ScaleFault}
 use Rattle.weight_scale.specs.declared.scaling.ScaleFault.TheVariants.{Negative, ZeroRow, WideWeight, NoMemory}
 
--- The size and the decimals of one of the numbers: no other but noughts has more decimals, what divides all numbers,
--- raised by these, divides the size, and the size is nought only where all are.
+-- A size, and at most 30 decimals: no number but noughts has more decimals, what divides all numbers, raised by these,
+-- divides the size, and the size is nought only where all numbers are.
 pub record IsFinest (row : List Decimal) (size decimals : ℕ) : Type 0 where
   pub few : decimals ≤ 30
   pub most : All (λ d. (unsigned_abs d.m ≡ 0) ⊎ (d.k ≤ decimals)) row
@@ -27,7 +27,7 @@ IsFiner size decimals d size' decimals' = ((size' ≡ size) × (decimals' ≡ de
 
 -- the row's numbers, raised, over the divisor
 abbrev pub shares : ℕ → ℕ → List Decimal → List ℕ
-shares tens divisor row = map (λ d. whole_number tens d / divisor) row
+shares decimals divisor row = map (λ d. whole_number decimals d / divisor) row
 
 -- the shares stand behind what was there, and the total is theirs
 pub record AppendsShares (old new shares : List ℕ) (total : ℕ) : Type 0 where
@@ -36,16 +36,16 @@ pub record AppendsShares (old new shares : List ℕ) (total : ℕ) : Type 0 wher
 
 -- so do the row's numbers, raised, over the divisor
 abbrev pub AppendsSharesOf : List ℕ → List ℕ → ℕ → ℕ → List Decimal → ℕ → Type 0
-AppendsSharesOf old new tens divisor row total = AppendsShares old new (shares tens divisor row) total
+AppendsSharesOf old new decimals divisor row total = AppendsShares old new (shares decimals divisor row) total
 
 -- so the program has the numbers before and after
 abbrev pub AppendsRowShares : Vec ℕ → Vec ℕ → ℕ → ℕ → List Decimal → ℕ → Type 0
-AppendsRowShares before after tens divisor row total =
-    AppendsSharesOf before.items after.items tens divisor row total
+AppendsRowShares before after decimals divisor row total =
+    AppendsSharesOf before.items after.items decimals divisor row total
 
 -- these add up to too much
 abbrev pub AreWideShares : ℕ → ℕ → List Decimal → Type 0
-AreWideShares tens divisor row = greatest_number < sum (shares tens divisor row)
+AreWideShares decimals divisor row = greatest_number < sum (shares decimals divisor row)
 
 -- the numbers, multiplied, stand behind what was there
 abbrev pub AppendsMultiples : ℕ → List ℕ → List ℤ → List ℤ → Type 0

@@ -11,9 +11,9 @@ use Rattle.weight_scale.specs.declared.scaling.ScaleFault.TheVariants.{Negative,
 abbrev pub row_at : {A : Type 0} → ℕ → List A → ℕ → List A
 row_at states cells r = take states (drop (r * states) cells)
 
--- a number raised by ten to the power of `tens`: a whole number, where it has no more decimals than that
+-- the size of a number times ten to the power of `decimals`: a whole number, where it has no more decimals than that
 abbrev pub whole_number : ℕ → Decimal → ℕ
-whole_number tens d = unsigned_abs d.m * 10 ^ (tens - d.k)
+whole_number decimals d = unsigned_abs d.m * 10 ^ (decimals - d.k)
 
 -- the numbers of a row raised to whole numbers by one power of ten: none has more than 30 decimals
 abbrev pub raised : List Decimal → List ℕ

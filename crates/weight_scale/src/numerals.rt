@@ -135,7 +135,8 @@ impl Scientific {
 
 /// The exact value of a numeral: the whole number and its decimals, of which there are as few as
 /// can be. `None` exactly where the value is no such number within the limits of `Decimal`.
-/// One pass over the text; noughts at either end and the length of the exponent don't matter.
+/// It goes over the text a few times and takes no memory; noughts at either end and the length of the exponent don't
+/// matter.
 pub fn numeral(text: &[u8]) -> Option<Decimal>
     requires { is_numeral text.now ≡ true }
     ensures some { IfSome result (IsDecimalOfNumeral text.now) }
