@@ -2,3 +2,4 @@ pub mod Spreading
 pub mod Turning
 pub mod Walking
 pub mod Searching
+pub mod FromGoals

@@ -4,7 +4,7 @@ use Rattle.node_sets.specs.declared.sets.NodeSet.{NodeSet}
 use Rattle.node_sets.specs.Sets.{IsIn}
 use Rattle.maid_model.specs.Views.{NodeView}
 use Rattle.maid_model.specs.Graph.{Arc}
-use Rattle.maid_model.specs.Relevance.{IsLive}
+use Rattle.maid_model.specs.Relevance.{IsLive, IsInFamily, IsGoal}
 use Rattle.maid_model.specs.Walks.{IsReached, IsReachedFromParent}
 use Rattle.bayes_ball.specs.declared.marks.Marks.{Marks}
 use Rattle.bayes_ball.specs.declared.search.Start.{Start}
@@ -56,3 +56,14 @@ pub record TellsReachFromAny (nodes : List NodeView) (given starts : NodeSet) (m
     Type 0 where
   pub reached : AreReachedFromAny nodes given starts marks.reached
   pub parents : AreParentsReachedFromAny nodes given starts marks.parents_reached
+
+-- what the marks of a search from the goals of d tell: from which nodes, and from which nodes' extra parents, an active
+-- walk leads to a goal of d given d and its parents
+pub record TellsWalksToGoals (nodes : List NodeView) (d : ℕ) (marks : Marks) : Type 0 where
+  pub reached : (v : ℕ) → v < length nodes
+      → IsIn marks.reached v ↔ ((goal : ℕ) × IsGoal nodes d goal
+      × IsReached (Arc nodes) (IsLive nodes) (IsInFamily (Arc nodes) d) v goal)
+  pub parents : (v : ℕ) → v < length nodes
+      → IsIn marks.parents_reached v ↔ ((goal : ℕ) × IsGoal nodes d goal
+      × IsReachedFromParent (Arc nodes) (IsLive nodes) (IsInFamily (Arc nodes) d) (length nodes) v
+      goal)

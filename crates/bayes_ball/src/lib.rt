@@ -3,10 +3,12 @@
 //! two states or more are on walks.
 #![tactic(auto)]
 
+mod goals;
 mod graph;
 mod marks;
 mod search;
 mod sweeps;
 
+pub use goals::reach_from_goals;
 pub use marks::Marks;
 pub use search::{Start, reach, reach_from_any};

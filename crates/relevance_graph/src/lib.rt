@@ -7,7 +7,6 @@ mod placed;
 mod relevance;
 mod reliance;
 mod searches;
-mod walks;
 
 pub use laws::kept_searches_stand;
 pub use relevance::{Relevance, find_relevance, find_relevance_with};

@@ -5,8 +5,7 @@ ghost use Rattle.maid_model.specs.Nodes.{IsDecision};
 ghost use Rattle.relevance_graph.specs.Kept.{IsKeptSearch, KeepsAllSearches};
 ghost use Rattle.relevance_graph.specs.Steps.{IsSearchedFor};
 
-use crate::walks::search_from_goals;
-use bayes_ball::Marks;
+use bayes_ball::{Marks, reach_from_goals};
 use maid_model::Diagram;
 use std::alloc::{AllocError, Global};
 
@@ -30,7 +29,7 @@ pub fn keep_searches(alloc: Global, diagram: &Diagram) -> Result<Vec<KeptSearch>
     let mut kept = Vec::new(alloc);
     for decision in 0..diagram.count() {
         if diagram.is_decision(decision) {
-            let marks = search_from_goals(diagram, decision);
+            let marks = reach_from_goals(diagram, decision);
             kept.push(KeptSearch { decision, marks })?;
         }
     }
@@ -48,5 +47,5 @@ pub(crate) fn marks_of(diagram: &Diagram, kept: &[KeptSearch], decision: usize) 
             return known.marks;
         }
     }
-    search_from_goals(diagram, decision)
+    reach_from_goals(diagram, decision)
 }

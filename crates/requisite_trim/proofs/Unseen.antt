@@ -4,6 +4,7 @@ use Rattle.std.proofs.lemmas.List.{get_or-set_same, get_or-set_other, length-set
 use Rattle.std.proofs.lemmas.List.Elements.{Contains-append_left, Contains-push_cases}
 use Rattle.std.proofs.Math.Decide.{ℕ_discrete}
 use Rattle.std.specs.Prelude.{Contains}
+use Rattle.bayes_ball.proofs.FromGoals.{goal_free}
 use Rattle.diagram_graph.specs.Edited.{with_parents}
 use Rattle.maid_model.specs.declared.diagrams.Kind.TheVariants.{Utility}
 use Rattle.maid_model.specs.Edits.{with_arc}
@@ -12,7 +13,6 @@ use Rattle.maid_model.specs.Nodes.{IsDecision, agent_of, node_at, no_node, owner
 use Rattle.maid_model.specs.Relevance.{IsGoal, IsInFamilyBut, IsLive, IsRequisite}
 use Rattle.maid_model.specs.Views.{NodeView}
 use Rattle.requisite_trim.proofs.Detours.{reached_less, reached_more}
-use Rattle.requisite_trim.proofs.Requisites.{goal_free}
 
 module _ (nodes : List NodeView) (x d : ℕ) (decision : IsDecision nodes d) where
   abbrev more : List NodeView

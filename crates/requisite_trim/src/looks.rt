@@ -4,7 +4,7 @@ ghost use Rattle.std.specs.Prelude.{◌<◌, length};
 ghost use Rattle.maid_model.specs.Nodes.{IsDecision};
 ghost use Rattle.requisite_trim.specs.Steps.{TellsFirstUnneeded, TellsFirstUnneededAt, TellsNextArc};
 
-use crate::searches::search_from_goals;
+use bayes_ball::reach_from_goals;
 use maid_model::Diagram;
 
 /// The first parent of the decision that is not requisite. It searches once for all parents.
@@ -12,7 +12,7 @@ fn first_unneeded(diagram: &Diagram, decision: usize) -> Option<usize>
     requires { IsDecision diagram.now.nodes decision }
     ensures { TellsFirstUnneeded diagram.now.nodes decision result }
 {
-    let marks = search_from_goals(diagram, decision);
+    let marks = reach_from_goals(diagram, decision);
     for parent in diagram.parents(decision) {
         if !marks.reached(*parent) {
             return Some(*parent);

@@ -8,8 +8,7 @@ ghost use Rattle.maid_model.specs.Nodes.{IsDecision};
 ghost use Rattle.node_sets.specs.declared.sets.TheConstants.{MOST_NODES};
 ghost use Rattle.requisite_trim.specs.Needs.{HasNode, TellsNeeds};
 
-use crate::searches::search_from_goals;
-use bayes_ball::Marks;
+use bayes_ball::{Marks, reach_from_goals};
 use maid_model::Diagram;
 
 /// Which parents of a decision are requisite, and which other nodes would be if the decision saw them.
@@ -26,7 +25,7 @@ impl RequisiteNodes {
     {
         let _count = diagram.count();
         RequisiteNodes {
-            marks: search_from_goals(diagram, decision),
+            marks: reach_from_goals(diagram, decision),
         }
     }
 

@@ -20,7 +20,7 @@ loop-decision-preserved c =
           subst (λ (list : Vec KeptSearch Global). KeepsSoFar nodes (v + 1) list.items) (sym w.kept-is)
           (subst (KeepsSoFar nodes (v + 1)) (sym w.in_ok-push.ensures.items) (record {
             decisions = map-append (λ (k : KeptSearch). k.decision) c.loop-decision.kept.items _ ∙ (λ i. so_far.decisions i ++ cond ((sym w.if-is_decision.true ∙ c.is_decision.ensures.kind) i) (v ∷ []) []) ∙ sym (filter_more (λ u. is_decision (node_at nodes u).kind) v);
-            all = All-push (IsKeptSearch nodes) c.loop-decision.kept.items _ so_far.all (record { decision = c.is_decision.ensures.decision.0 w.if-is_decision.true; marks = w.search_from_goals-marks.ensures });
+            all = All-push (IsKeptSearch nodes) c.loop-decision.kept.items _ so_far.all (record { decision = c.is_decision.ensures.decision.0 w.if-is_decision.true; marks = w.reach_from_goals-marks.ensures.parents });
           }))
       | else-is_decision w ↦
           subst (λ (list : Vec KeptSearch Global). KeepsSoFar nodes (v + 1) list.items) (sym w.kept-is) (record {

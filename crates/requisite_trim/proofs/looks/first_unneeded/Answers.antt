@@ -3,6 +3,7 @@ use Rattle.std.proofs.lemmas.Bool.{false≢true}
 use Rattle.std.proofs.lemmas.List.Elements.{Contains-get_or}
 use Rattle.maid_model.specs.Relevance.{IsRequisite}
 use Rattle.requisite_trim.proofs.Looking.{below_more, first_at, all_seen}
+use Rattle.requisite_trim.proofs.Requisites.{requisites_told}
 use Rattle.requisite_trim.proofs.looks.first_unneeded.Goals as goal
 
 pub reached-requires : goal.reached-requires
@@ -13,14 +14,14 @@ reached-requires c =
 pub returns-then-not-reached : goal.returns-then-not-reached
 returns-then-not-reached c =
     let items = c.parents-parent-items.result.now in
-    let tells = c.search_from_goals-marks.ensures (get_or items c.loop-parent.parent-index 0) (c.parents-parent-items.ensures.known _ (Contains-get_or _ _ 0 c.loop-parent-test.true)) in
+    let tells = requisites_told c.args.diagram.now.nodes c.args.decision _ c.reach_from_goals-marks.ensures (get_or items c.loop-parent.parent-index 0) (c.parents-parent-items.ensures.known _ (Contains-get_or _ _ 0 c.loop-parent-test.true)) in
     first_at c.args.diagram.now.nodes c.args.decision items c.parents-parent-items.ensures.parents c.loop-parent.parent-index c.loop-parent-test.true
     (λ r. false≢true (sym c.if-not-reached.true ∙ c.reached.ensures.1 (tells.1 r))) c.loop-parent.invariant
 
 pub loop-parent-preserved : goal.loop-parent-preserved
 loop-parent-preserved c =
     let items = c.parents-parent-items.result.now in
-    let tells = c.search_from_goals-marks.ensures (get_or items c.loop-parent.parent-index 0) (c.parents-parent-items.ensures.known _ (Contains-get_or _ _ 0 c.loop-parent-test.true)) in
+    let tells = requisites_told c.args.diagram.now.nodes c.args.decision _ c.reach_from_goals-marks.ensures (get_or items c.loop-parent.parent-index 0) (c.parents-parent-items.ensures.known _ (Contains-get_or _ _ 0 c.loop-parent-test.true)) in
     below_more (λ (k : ℕ). IsRequisite c.args.diagram.now.nodes c.args.decision (get_or items k 0)) c.loop-parent.parent-index c.loop-parent.invariant (tells.0 (c.reached.ensures.0 c.if-not-reached.false))
 
 pub returns : goal.returns

@@ -1,4 +1,5 @@
 use Rattle.std.proofs.Common.{arith}
+use Rattle.requisite_trim.proofs.Requisites.{requisites_told}
 use Rattle.requisite_trim.proofs.searches.requisite.Goals as goal
 
 pub reached-requires : goal.reached-requires
@@ -6,5 +7,5 @@ reached-requires c = let l = c.count-count.ensures.diagram.graph.parents_known c
 
 pub returns : goal.returns
 returns c =
-    let tells = c.search_from_goals.ensures c.args.parent (c.count-count.ensures.diagram.graph.parents_known c.args.parent c.args.decision c.requires.arc) in
+    let tells = requisites_told c.args.diagram.now.nodes c.args.decision _ c.reach_from_goals.ensures c.args.parent (c.count-count.ensures.diagram.graph.parents_known c.args.parent c.args.decision c.requires.arc) in
     ((λ t. tells.0 (c.reached.ensures.0 t)), (λ r. c.reached.ensures.1 (tells.1 r)))

@@ -1,3 +1,4 @@
+use Rattle.requisite_trim.proofs.Requisites.{requisites_told}
 use Rattle.requisite_trim.proofs.Unseen.{unseen_alike}
 use Rattle.requisite_trim.proofs.requisite_nodes.RequisiteNodes.of.Goals as goal
 
@@ -7,7 +8,7 @@ returns c =
     let nodes = c.args.diagram.now.nodes in
     let d = c.args.decision in
     let graph = c.count-count.ensures.diagram.graph in
-    let tells = c.search_from_goals.ensures in
+    let tells = requisites_told nodes d _ c.reach_from_goals.ensures in
     record {
       seen = λ x arc. tells x (graph.parents_known x d arc);
       unseen = λ x within back.

@@ -3,8 +3,8 @@ use Rattle.std.specs.Prelude.{Contains}
 use Rattle.node_sets.specs.Sets.{IsIn}
 use Rattle.maid_model.specs.Graph.{Arc}
 use Rattle.maid_model.specs.Relevance.{IsInFamily}
-use Rattle.relevance_graph.proofs.Walking.{goal_free}
-use Rattle.relevance_graph.proofs.walks.family_of.Goals as goal
+use Rattle.bayes_ball.proofs.FromGoals.{goal_free}
+use Rattle.bayes_ball.proofs.goals.family_of.Goals as goal
 
 pub returns : goal.returns
 returns c =

@@ -1,13 +1,14 @@
-//! The goals of a decision, and the walks that lead to them.
+//! The search from the goals of a decision.
 
 ghost use Rattle.std.specs.Prelude.{◌<◌, ◌↔◌, ℕ, length};
 ghost use Rattle.node_sets.specs.Sets.{IsIn};
 ghost use Rattle.maid_model.specs.Graph.{Arc};
 ghost use Rattle.maid_model.specs.Nodes.{IsDecision};
 ghost use Rattle.maid_model.specs.Relevance.{IsInFamily, IsGoal};
-ghost use Rattle.relevance_graph.specs.Steps.{IsSearchedFor};
+ghost use Rattle.bayes_ball.specs.Search.{TellsWalksToGoals};
 
-use bayes_ball::{Marks, reach_from_any};
+use crate::marks::Marks;
+use crate::search::reach_from_any;
 use maid_model::{Diagram, goals_of};
 use node_sets::NodeSet;
 
@@ -24,10 +25,12 @@ fn family_of(diagram: &Diagram, decision: usize) -> NodeSet
     family
 }
 
-/// Searches, given the decision and its parents, from all utilities of its agent that descend from it.
-pub(crate) fn search_from_goals(diagram: &Diagram, decision: usize) -> Marks
+/// Searches, given the decision and its parents, from all utilities of its agent that descend from it. The marks also
+/// tell of which nodes an extra parent has an active walk to one of these utilities. It takes no memory, and its cost is
+/// that of one `reach`.
+pub fn reach_from_goals(diagram: &Diagram, decision: usize) -> Marks
     requires { IsDecision diagram.now.nodes decision }
-    ensures { IsSearchedFor diagram.now.nodes decision result }
+    ensures { TellsWalksToGoals diagram.now.nodes decision result }
 {
     let goals = goals_of(diagram, decision);
     let family = family_of(diagram, decision);
