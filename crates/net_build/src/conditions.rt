@@ -9,8 +9,8 @@ ghost use Rattle.first_fault.specs.Answers.{Passes};
 ghost use Rattle.net_build.specs.Passes.{build_fault};
 ghost use Rattle.net_build.specs.LinkCalls.{AreNodesNamed, PassesCondition, PassesConditions};
 
+use crate::distinct_names::DistinctNames;
 use crate::faults::{BuildFault, BuildKind};
-use crate::node_names::NodeNames;
 use crate::nodes::Head;
 use maid_model::Kind;
 use net_lexer::Token;
@@ -25,7 +25,7 @@ fn stands_in(text: &[u8], tokens: &[Token], bytes: &[u8]) -> bool
 }
 
 /// The node of that name.
-pub fn read_name(text: &[u8], names: &NodeNames, name: &Token) -> Result<usize, BuildFault>
+pub fn read_name(text: &[u8], names: &DistinctNames, name: &Token) -> Result<usize, BuildFault>
     requires { IsTokenOf text.now name.now }
     ensures row { Passes build_fault (unknown_row text.now names.now name.now) result }
     ensures node { IfOk result (λ node. node ≡ node_named text.now names.now name.now) }
@@ -63,7 +63,7 @@ fn check_kind(heads: &[Head], node: usize, name: &Token) -> Result<(), BuildFaul
 // The node of the name behind a potential's bar, and behind those earlier.
 fn read_condition(
     text: &[u8],
-    names: &NodeNames,
+    names: &DistinctNames,
     heads: &[Head],
     earlier: &[Token],
     name: &Token,
@@ -84,7 +84,7 @@ fn read_condition(
 pub fn read_conditions(
     alloc: Global,
     text: &[u8],
-    names: &NodeNames,
+    names: &DistinctNames,
     heads: &[Head],
     conditions: &[Token],
 ) -> Result<Vec<usize>, BuildFault>

@@ -11,9 +11,9 @@ ghost use Rattle.net_parser.specs.Owned.{IsBlockOf};
 ghost use Rattle.net_build.specs.NodeCalls.{AddsOwners, AreLabelsOf, HasOwnersInText, PassesNode};
 
 use crate::attributes::check_repeats;
+use crate::distinct_names::DistinctNames;
 use crate::faults::{BuildFault, BuildKind, Limit};
 use crate::labels::{read_labels, title};
-use crate::node_names::NodeNames;
 use crate::owners::read_owners;
 use maid_model::{Kind, MOST_NAME_BYTES, MOST_NODES};
 use net_parser::{Block, BlockKind, Syntax};
@@ -34,7 +34,7 @@ pub struct Head {
 /// owners after the first.
 #[derive(Drop)]
 pub struct Nodes {
-    pub names: NodeNames,
+    pub names: DistinctNames,
     pub labels: Vec<Vec<Vec<u8>>>,
     pub agents: Vec<Vec<u8>>,
     pub heads: Vec<Head>,
@@ -96,7 +96,7 @@ fn kind_of(kind: BlockKind) -> Kind
 fn read_name<'a>(
     text: &'a [u8],
     block: &Block<'_>,
-    names: &NodeNames,
+    names: &DistinctNames,
 ) -> Result<&'a [u8], BuildFault>
     requires own { IsBlockOf text.now block.now }
     requires named { 0 < length block.now.names }
@@ -155,7 +155,7 @@ fn read_entry(
     alloc: Global,
     text: &[u8],
     block: &Block<'_>,
-    names: &NodeNames,
+    names: &DistinctNames,
     agents: &mut Vec<Vec<u8>>,
 ) -> Result<Entry, BuildFault>
     requires own { IsBlockOf text.now block.now }
@@ -190,7 +190,7 @@ fn read_entry(
 // Adds what one node block says. It stands apart since each refusal in `read_blocks` drops all that was read so far, and
 // each such drop is proved.
 fn enter(
-    names: &mut NodeNames,
+    names: &mut DistinctNames,
     labels: &mut Vec<Vec<Vec<u8>>>,
     heads: &mut Vec<Head>,
     more: &mut Vec<Vec<usize>>,
@@ -215,7 +215,7 @@ fn read_blocks(alloc: Global, text: &[u8], blocks: &[Block<'_>]) -> Result<Nodes
     ensures rows { Passes build_fault (node_pass text.now blocks.now) result }
     ensures nodes { IfOk result (λ nodes. nodes ≡ node_lists text.now (node_blocks blocks.now)) }
 {
-    let mut names = NodeNames::new(alloc);
+    let mut names = DistinctNames::new(alloc);
     let mut labels = Vec::new(alloc);
     let mut agents = Vec::new(alloc);
     let mut heads = Vec::new(alloc);

@@ -15,10 +15,10 @@ ghost use Rattle.net_build.specs.Answered.{AnswersTexts};
 ghost use Rattle.net_build.specs.NodeCalls.{IsStringOf, value_texts, written_owners_rows};
 
 use crate::attributes::{is_named, names_owners, word_of};
+use crate::distinct_names::DistinctNames;
 use crate::faults::{BuildFault, BuildKind};
 use crate::labels::{is_plain, is_string_list, labels};
 use crate::leaves::leaves;
-use crate::node_names::NodeNames;
 use net_lexer::{Token, TokenKind, text_value};
 use net_parser::{Attribute, Block, BlockKind, Value};
 use std::alloc::Global;
@@ -119,7 +119,12 @@ fn agent_names(
 }
 
 // The agent is none of those seen, and is seen from now on.
-fn see_agent(alloc: Global, seen: &mut NodeNames, agent: &[u8], at: u32) -> Result<(), BuildFault>
+fn see_agent(
+    alloc: Global,
+    seen: &mut DistinctNames,
+    agent: &[u8],
+    at: u32,
+) -> Result<(), BuildFault>
     ensures row { Passes build_fault (seen_agent_row seen.old at agent.now) result }
     ensures seen { OnOk result (seen.new ≡ seen.old ++ agent.now ∷ []) }
 {
@@ -141,7 +146,7 @@ fn check_distinct(
     ensures { Passes build_fault (each_after (repeated_agent_row text.now) [] agents.now) result }
 {
     let _ = text;
-    let mut seen = NodeNames::new(alloc);
+    let mut seen = DistinctNames::new(alloc);
     for (place, agent) in agents.iter().enumerate() {
         see_agent(alloc, &mut seen, &names[place], agent.start)?;
     }

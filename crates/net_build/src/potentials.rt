@@ -12,10 +12,10 @@ ghost use Rattle.net_build.specs.LinkCalls.{AreConditionNodes, HasParents, HasPo
 ghost use Rattle.net_build.specs.TableSteps.{SetsPotential};
 
 use crate::conditions::{read_conditions, read_name};
+use crate::distinct_names::DistinctNames;
 use crate::faults::{BuildFault, BuildKind, Limit};
 use crate::labels::title;
 use crate::links::Links;
-use crate::node_names::NodeNames;
 use crate::nodes::Head;
 use maid_model::{Kind, MOST_PARENTS};
 use net_lexer::Token;
@@ -78,7 +78,7 @@ fn conditions<'a>(potential: &'a Block<'_>) -> &'a [Token]
 fn read_potential(
     alloc: Global,
     text: &[u8],
-    names: &NodeNames,
+    names: &DistinctNames,
     heads: &[Head],
     potentials: &[Option<&Block<'_>>],
     block: &Block<'_>,
@@ -142,7 +142,7 @@ pub fn read_potentials<'a, 't>(
     alloc: Global,
     text: &[u8],
     syntax: &'a Syntax<'t>,
-    names: &NodeNames,
+    names: &DistinctNames,
     heads: &[Head],
 ) -> Result<Links<'a, 't>, BuildFault>
     requires blocks { All (IsBlockOf text.now) syntax.now }

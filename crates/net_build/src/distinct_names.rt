@@ -1,4 +1,4 @@
-//! The names of a text's nodes, found by their hashes.
+//! Names that differ, found by their hashes.
 
 ghost use Rattle.std.specs.Prelude.{◌≡◌, ◌++◌, [], ◌∷◌, length, Contains, IfOk, OnOk};
 ghost use Rattle.maid_model.specs.Names.{list_of};
@@ -11,11 +11,11 @@ use std::marker::Model;
 /// Names that differ, in the order in which they were added. The hashes have no secret: names that are made to have one
 /// hash are compared in order.
 #[derive(Drop)]
-pub struct NodeNames {
+pub struct DistinctNames {
     names: IndexSet<Vec<u8>>,
 }
 
-impl Model for NodeNames {
+impl Model for DistinctNames {
     ghost use Rattle.std.specs.Prelude.{ℕ, List};
     ghost use Rattle.maid_model.specs.Names.{list_of};
 
@@ -24,12 +24,12 @@ impl Model for NodeNames {
     ghost view = { λ n. list_of n.names.keys };
 }
 
-impl NodeNames {
+impl DistinctNames {
     /// No names.
-    pub fn new(alloc: Global) -> NodeNames
+    pub fn new(alloc: Global) -> DistinctNames
         ensures { result ≡ [] }
     {
-        NodeNames {
+        DistinctNames {
             names: IndexSet::new(alloc),
         }
     }

@@ -2,7 +2,7 @@
 use Rattle.std.proofs.Common.{ℕ, List, [], ◌∷◌, ◌++◌, Contains, ap, sym, subst, ◌∙◌}
 use Rattle.maid_model.specs.Names.{list_of}
 use Rattle.net_build.proofs.NameLemmas.{one_more}
-use Rattle.net_build.proofs.node_names.NodeNames.add.Goals as goal
+use Rattle.net_build.proofs.distinct_names.DistinctNames.add.Goals as goal
 
 pub returns : goal.returns
 returns c = ap list_of c.in_ok-insert.ensures.keys
