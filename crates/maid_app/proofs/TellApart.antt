@@ -9,7 +9,7 @@ use Rattle.maid_model.specs.Names.{NamesView}
 use Rattle.maid_model.specs.Reports.{IsOneLine}
 use Rattle.maid_model.specs.Views.{DiagramView}
 use Rattle.maid_model.specs.declared.limits.TheConstants.{MOST_NAME_BYTES}
-use Rattle.net_build.specs.Blocks.{is_plain}
+use Rattle.net_build.specs.Blocks.{is_label}
 use Rattle.net_build.specs.Form.{HasTextForm}
 use Rattle.net_lexer.specs.Bytes.{is_word_start, is_word_byte}
 use Rattle.net_lexer.specs.Token.{is_name}
@@ -30,7 +30,7 @@ one_word (b ∷ bytes) is =
 plain_byte : (b : ℕ) → nat_le 32 b ≡ true → b ≢ 10
 plain_byte b is = λ e. let no = sym (ap (nat_le 32) e) ∙ is in absurd cc
 
-one_line : (bytes : List ℕ) → is_plain bytes ≡ true → IsOneLine bytes
+one_line : (bytes : List ℕ) → is_label bytes ≡ true → IsOneLine bytes
 one_line bytes is =
     let parts = and_parts (nat_le (length bytes) MOST_NAME_BYTES) (list_all (λ b. nat_le 32 b) bytes) is in
     λ k d h. plain_byte _ (AllPass-from_list_all (λ b. nat_le 32 b) bytes parts.1 k d h)

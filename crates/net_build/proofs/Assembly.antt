@@ -15,7 +15,7 @@ use Rattle.maid_model.specs.Nodes.{is_chance}
 use Rattle.maid_model.specs.Views.{NodeView}
 use Rattle.net_lexer.specs.Token.{text_value}
 use Rattle.net_build.specs.declared.nodes.Head.{Head}
-use Rattle.net_build.specs.Blocks.{is_node, kind_of, node_blocks, block_name, has_states, has_agent, may_share, named, leaves_of, label_tokens, block_labels, block_states, owner_texts, agents_of, place_among, owner_numbers, block_parents, parent_lists, is_plain, first_sights, no_token}
+use Rattle.net_build.specs.Blocks.{is_node, kind_of, node_blocks, block_name, has_states, has_agent, may_share, named, leaves_of, label_tokens, block_labels, block_states, owner_texts, agents_of, place_among, owner_numbers, block_parents, parent_lists, is_label, first_sights, no_token}
 use Rattle.net_build.specs.Building.{StandsFor, AreTables, names_view}
 use Rattle.net_build.specs.Form.{IsNodeName, HasTextForm}
 use Rattle.net_build.specs.Stages.{TableLists, AreLinks, TablesFit, first_owner, more_owners, head_of, node_lists, link_lists, head_at, no_head, made_at, made_nodes, made_diagram}
@@ -315,20 +315,20 @@ module _ (text : List ℕ) (tree : List BlockTree) (tables : TableLists) (own : 
   node_name : (b : BlockTree) → IsBlockOf text b → is_node b.kind ≡ true → length (block_name text b) ≤ 255 → IsNodeName (block_name text b)
   node_name b block node short = record { unsigned = (block.names 0 no_token (node_is_named b.kind (length b.names) node block.count)).name.unsigned; size = short }
 
-  labels_plain : (b : BlockTree) → IsGood text b → All (λ l. is_plain l ≡ true) (block_labels text b)
+  labels_plain : (b : BlockTree) → IsGood text b → All (λ l. is_label l ≡ true) (block_labels text b)
   labels_plain b this = by_test (has_states b.kind) refl where
-    by_test : (t : Bool) → has_states b.kind ≡ t → All (λ l. is_plain l ≡ true) (block_labels text b)
-    by_test true e = All-map (λ l. is_plain l ≡ true) (text_value text) (label_tokens text b) (subst (All (λ t. is_plain (text_value text t) ≡ true)) (sym (ap (λ t. if t then leaves_of (named text (codes "states") b.attributes) else []) e)) (this.labels e).plain)
-    by_test false e = subst (λ (ts : List Token). All (λ l. is_plain l ≡ true) (map (text_value text) ts)) (sym (ap (λ t. if t then leaves_of (named text (codes "states") b.attributes) else []) e)) (λ k d h. absurd (omega arith))
+    by_test : (t : Bool) → has_states b.kind ≡ t → All (λ l. is_label l ≡ true) (block_labels text b)
+    by_test true e = All-map (λ l. is_label l ≡ true) (text_value text) (label_tokens text b) (subst (All (λ t. is_label (text_value text t) ≡ true)) (sym (ap (λ t. if t then leaves_of (named text (codes "states") b.attributes) else []) e)) (this.labels e).plain)
+    by_test false e = subst (λ (ts : List Token). All (λ l. is_label l ≡ true) (map (text_value text) ts)) (sym (ap (λ t. if t then leaves_of (named text (codes "states") b.attributes) else []) e)) (λ k d h. absurd (omega arith))
 
-  agents_plain : All (λ a. is_plain a ≡ true) (agents_of text nodes)
-  agents_plain = sights_all (λ a. is_plain a ≡ true) (agents_among text nodes) (all_among (filter (λ b. has_agent b.kind) nodes)
+  agents_plain : All (λ a. is_label a ≡ true) (agents_of text nodes)
+  agents_plain = sights_all (λ a. is_label a ≡ true) (agents_among text nodes) (all_among (filter (λ b. has_agent b.kind) nodes)
       (λ k d h. ((All-filter (λ b. has_agent b.kind) (IsGood text) nodes good.each k d h).owners (filter_passes (λ b. has_agent b.kind) nodes k d h)).plain))
     where
-      all_among : (bs : List BlockTree) → All (λ b. All (λ a. is_plain a ≡ true) (owner_texts text b)) bs → All (λ a. is_plain a ≡ true) (flat_map (owner_texts text) bs)
-      all_among [] all = All-nil (λ a. is_plain a ≡ true)
-      all_among (b ∷ bs) all = subst (All (λ a. is_plain a ≡ true)) (sym (flat_map-cons (owner_texts text) b bs))
-          (All-append (λ a. is_plain a ≡ true) (owner_texts text b) (flat_map (owner_texts text) bs) (all 0 b (omega arith)) (all_among bs (λ k d h. all (suc k) d (omega arith))))
+      all_among : (bs : List BlockTree) → All (λ b. All (λ a. is_label a ≡ true) (owner_texts text b)) bs → All (λ a. is_label a ≡ true) (flat_map (owner_texts text) bs)
+      all_among [] all = All-nil (λ a. is_label a ≡ true)
+      all_among (b ∷ bs) all = subst (All (λ a. is_label a ≡ true)) (sym (flat_map-cons (owner_texts text) b bs))
+          (All-append (λ a. is_label a ≡ true) (owner_texts text b) (flat_map (owner_texts text) bs) (all 0 b (omega arith)) (all_among bs (λ k d h. all (suc k) d (omega arith))))
 
   -- the agents by the nodes' owners
   numbered : agents_of text nodes ≡ first_sights (flat_map (λ n. map (agent_name (names_view text tree)) (n.owner ∷ n.more)) (filter (λ n. not (is_chance n.kind)) (made_nodes heads more (parent_lists text tree) tables.cells)))
@@ -369,7 +369,7 @@ module _ (text : List ℕ) (tree : List BlockTree) (tables : TableLists) (own : 
   made_form = record {
     distinct = good.distinct;
     words = All-map IsNodeName (block_name text) nodes (λ k d h. node_name (get_or nodes k d) (owned_blocks k d h) (kinds k d h) (good.each k d h).short);
-    labels = All-map (All (λ l. is_plain l ≡ true)) (block_labels text) nodes (λ k d h. labels_plain (get_or nodes k d) (good.each k d h));
+    labels = All-map (All (λ l. is_label l ≡ true)) (block_labels text) nodes (λ k d h. labels_plain (get_or nodes k d) (good.each k d h));
     utility_labels = λ v u.
         let at = made_node_at heads more (parent_lists text tree) tables.cells more_len parents_len cells_len v in
         labels_absent v (sym (ap (λ (n : NodeView). n.kind) at) ∙ u);

@@ -7,7 +7,7 @@ use Rattle.std.proofs.lemmas.List.Quantifiers.{all_pairs_push}
 use Rattle.std.specs.List.{list_all, list_any}
 use Rattle.std.specs.Prelude.{if◌then◌else◌, codes}
 use Rattle.std.specs.Str.{bytes_eq}
-use Rattle.net_build.specs.Blocks.{node_blocks, block_name, names_of, title_at, word_of, has_states, has_agent, may_share, names_owners, named, is_string, is_string_list, is_plain, leaves_of, tells_owners, owner_attributes, texts_or_agent, owner_texts, agents_of, first_sights, with_sight, with_sights}
+use Rattle.net_build.specs.Blocks.{node_blocks, block_name, names_of, title_at, word_of, has_states, has_agent, may_share, names_owners, named, is_string, is_string_list, is_label, leaves_of, tells_owners, owner_attributes, texts_or_agent, owner_texts, agents_of, first_sights, with_sight, with_sights}
 use Rattle.first_fault.specs.Passes.{Pass, only, each, each_after}
 use Rattle.net_build.specs.Passes.{Found}
 use Rattle.net_build.specs.Stages.{with_owners}
@@ -41,11 +41,11 @@ pub only_on : (b : Bool) (P : Pass Found) → b ≡ true → only b P None → P
 only_on true P e h = h
 only_on false P e h = absurd (false≢true e)
 
--- a node with states has one to 256 labels, all of them plain
+-- a node with states has one to 256 labels, all of a label's form
 pub record HasLabels (text : List ℕ) (tokens : List Token) : Type 0 where
   pub some : 0 < length tokens
   pub few : length tokens ≤ 256
-  pub plain : All (λ t. is_plain (text_value text t) ≡ true) tokens
+  pub plain : All (λ t. is_label (text_value text t) ≡ true) tokens
 
 states_labels : (text : List ℕ) (block : BlockTree) (states : List AttributeTree) → states_rows text block states None → HasLabels text (leaves_of states)
 unfolding states_rows label_rows
@@ -53,16 +53,16 @@ states_labels text block [] h = absurd (h tt)
 states_labels text block (s ∷ rest) h = record {
   some = some_leaf s.value (not_false (is_string_list s.value) h.0);
   few = few (length (leaves s.value)) h.1.0;
-  plain = All-weaker (λ t. label_row text t None) (λ t. is_plain (text_value text t) ≡ true) (λ t nothing. not_false (is_plain (text_value text t)) nothing) (leaves s.value) (each_all (label_row text) (leaves s.value) h.1.1);
+  plain = All-weaker (λ t. label_row text t None) (λ t. is_label (text_value text t) ≡ true) (λ t nothing. not_false (is_label (text_value text t)) nothing) (leaves s.value) (each_all (label_row text) (leaves s.value) h.1.1);
 } where
   few : (n : ℕ) → (256 < n → ⊥) → n ≤ 256
   few n many = grind arith
 
-all_plain : (text : List ℕ) (ts : List Token) → list_all (λ t. is_plain (text_value text t)) ts ≡ true → All (λ x. is_plain x ≡ true) (map (text_value text) ts)
-all_plain text [] e = All-nil (λ x. is_plain x ≡ true)
+all_plain : (text : List ℕ) (ts : List Token) → list_all (λ t. is_label (text_value text t)) ts ≡ true → All (λ x. is_label x ≡ true) (map (text_value text) ts)
+all_plain text [] e = All-nil (λ x. is_label x ≡ true)
 all_plain text (t ∷ ts) e =
-    All-cons (λ x. is_plain x ≡ true) (text_value text t) (map (text_value text) ts) (and_left (is_plain (text_value text t)) (list_all (λ t. is_plain (text_value text t)) ts) e)
-    (all_plain text ts (and_right (is_plain (text_value text t)) (list_all (λ t. is_plain (text_value text t)) ts) e))
+    All-cons (λ x. is_label x ≡ true) (text_value text t) (map (text_value text) ts) (and_left (is_label (text_value text t)) (list_all (λ t. is_label (text_value text t)) ts) e)
+    (all_plain text ts (and_right (is_label (text_value text t)) (list_all (λ t. is_label (text_value text t)) ts) e))
 
 -- no agent that a list names stands twice
 none_twice : (text : List ℕ) (ts : List Token) → each_after (repeated_agent_row text) [] ts None → AllPairs (λ name later. name ≢ later) (map (text_value text) ts)
@@ -71,10 +71,10 @@ none_twice text ts h = after_all (repeated_agent_row text) (λ earlier. AllPairs
     (all_pairs_push (λ name later. name ≢ later) (map (text_value text) earlier) (text_value text t) apart (λ k d within same. new (k, within, get_or_default (map (text_value text) earlier) k (text_value text t) d within ∙ same))))
     [] ts (λ i j d lt within. absurd (omega arith)) h
 
--- the owners of a decision or a utility: plain, each once, and one alone unless several may share the node
+-- the owners of a decision or a utility: of a label's form, each once, and one alone unless several may share the node
 pub record HasOwnerNames (kind : BlockKind) (names : List (List ℕ)) : Type 0 where
   pub some : 0 < length names
-  pub plain : All (λ name. is_plain name ≡ true) names
+  pub plain : All (λ name. is_label name ≡ true) names
   pub distinct : AllPairs (λ name later. name ≢ later) names
   pub one : may_share kind ≡ false → length names ≡ 1
 
@@ -91,13 +91,13 @@ told_owners : (text : List ℕ) (kind : BlockKind) (attributes : List AttributeT
 unfolding agent_rows
 told_owners text kind [] all h = record {
   some = omega arith;
-  plain = All-cons (λ name. is_plain name ≡ true) (codes "agent") [] refl (All-nil (λ name. is_plain name ≡ true));
+  plain = All-cons (λ name. is_label name ≡ true) (codes "agent") [] refl (All-nil (λ name. is_label name ≡ true));
   distinct = λ i j d lt within. absurd (omega arith);
   one = λ alone. refl;
 }
 told_owners text kind (a ∷ rest) all h =
     let tells = not_false (tells_owners text a) h.0 in
-    let all_are : list_all (λ t. is_plain (text_value text t)) (leaves a.value) ≡ true = and_right (cond (bytes_eq (word_of text a) (codes "agents")) (is_string_list a.value) (is_string a.value)) (list_all (λ t. is_plain (text_value text t)) (leaves a.value)) tells in
+    let all_are : list_all (λ t. is_label (text_value text t)) (leaves a.value) ≡ true = and_right (cond (bytes_eq (word_of text a) (codes "agents")) (is_string_list a.value) (is_string a.value)) (list_all (λ t. is_label (text_value text t)) (leaves a.value)) tells in
     let are = texts_told text a h.0 in
     let count : length (map (text_value text) (leaves a.value)) ≡ length (leaves a.value) = length-map (leaves a.value) (text_value text) in
     subst (HasOwnerNames kind) (sym are) (record {
@@ -173,7 +173,7 @@ pub nodes_are_good : (text : List ℕ) (blocks : List BlockTree) → node_pass t
 unfolding node_pass
 nodes_are_good text blocks h = after_all (rows_behind text) (AreGood text) (good_more text) [] (node_blocks blocks) (record { few = omega arith; distinct = λ i j d lt within. absurd (omega arith); agents = omega arith; each = All-nil (IsGood text) }) h
 
--- agents in order of first sight are plain
+-- agents in order of first sight have a label's form
 pub sights_all : (P : List ℕ → Type 0) (xs : List (List ℕ)) → All P xs → All P (first_sights xs)
 sights_all P [] all = all
 sights_all P (x ∷ xs) all = All-cons P x _ (all 0 x (omega arith)) (All-filter (λ y. not (bytes_eq x y)) P (first_sights xs) (sights_all P xs (λ k d h. all (suc k) d (omega arith))))

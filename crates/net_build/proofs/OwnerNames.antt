@@ -5,7 +5,7 @@ use Rattle.std.specs.List.{list_all}
 use Rattle.std.specs.Prelude.{codes}
 use Rattle.std.specs.Str.{bytes_eq}
 use Rattle.net_build.specs.declared.faults.BuildFault.{BuildFault}
-use Rattle.net_build.specs.Blocks.{is_string, is_string_list, is_plain, tells_owners, texts_or_agent, word_of}
+use Rattle.net_build.specs.Blocks.{is_string, is_string_list, is_label, tells_owners, texts_or_agent, word_of}
 use Rattle.first_fault.specs.Passes.{rule, each, each_after}
 use Rattle.first_fault.specs.Answers.{IsFaultOrNoMemory, Passes}
 use Rattle.first_fault.proofs.Leading.{refused_first, refused_later}
@@ -23,9 +23,9 @@ and_false true = refl
 and_false false = refl
 
 module _ (text : List ℕ) (a : AttributeTree) where
-  -- each string of the value is plain
+  -- each string of the value has a label's form
   abbrev plain : Bool
-  plain = list_all (λ t. is_plain (text_value text t)) (leaves a.value)
+  plain = list_all (λ t. is_label (text_value text t)) (leaves a.value)
 
   -- an `agent` tells by its one string
   one_tells : bytes_eq (word_of text a) (codes "agents") ≡ false → tells_owners text a ≡ (is_string a.value && plain)
@@ -34,13 +34,13 @@ module _ (text : List ℕ) (a : AttributeTree) where
   pub no_string : bytes_eq (word_of text a) (codes "agents") ≡ false → is_string a.value ≡ false → tells_owners text a ≡ false
   no_string one bad = one_tells one ∙ ap (λ b. b && plain) bad
 
-  plain_leaf : (t : Token) → a.value ≡ leaf t → plain ≡ (is_plain (text_value text t) && true)
-  plain_leaf t is = ap (λ v. list_all (λ t. is_plain (text_value text t)) (leaves v)) is
+  plain_leaf : (t : Token) → a.value ≡ leaf t → plain ≡ (is_label (text_value text t) && true)
+  plain_leaf t is = ap (λ v. list_all (λ t. is_label (text_value text t)) (leaves v)) is
 
-  pub unplain_string : (t : Token) → bytes_eq (word_of text a) (codes "agents") ≡ false → a.value ≡ leaf t → is_plain (text_value text t) ≡ false → tells_owners text a ≡ false
+  pub unplain_string : (t : Token) → bytes_eq (word_of text a) (codes "agents") ≡ false → a.value ≡ leaf t → is_label (text_value text t) ≡ false → tells_owners text a ≡ false
   unplain_string t one is bad = one_tells one ∙ ap (λ b. is_string a.value && b) (plain_leaf t is ∙ ap (λ b. b && true) bad) ∙ and_false (is_string a.value)
 
-  pub plain_string : (t : Token) → bytes_eq (word_of text a) (codes "agents") ≡ false → a.value ≡ leaf t → is_string (leaf t) ≡ true → is_plain (text_value text t) ≡ true → tells_owners text a ≡ false → ⊥
+  pub plain_string : (t : Token) → bytes_eq (word_of text a) (codes "agents") ≡ false → a.value ≡ leaf t → is_string (leaf t) ≡ true → is_label (text_value text t) ≡ true → tells_owners text a ≡ false → ⊥
   plain_string t one is string good bad =
       false≢true (sym bad ∙ one_tells one ∙ (λ j. (ap is_string is ∙ string) j && (plain_leaf t is ∙ ap (λ b. b && true) good) j))
 
@@ -51,22 +51,22 @@ module _ (text : List ℕ) (a : AttributeTree) where
   pub no_list : bytes_eq (word_of text a) (codes "agents") ≡ true → is_string_list a.value ≡ false → tells_owners text a ≡ false
   no_list many bad = list_tells many ∙ ap (λ b. b && plain) bad
 
-  each_plain : (ts : List Token) → each (label_row text) ts None → list_all (λ t. is_plain (text_value text t)) ts ≡ true
+  each_plain : (ts : List Token) → each (label_row text) ts None → list_all (λ t. is_label (text_value text t)) ts ≡ true
   each_plain [] h = refl
-  each_plain (t ∷ ts) h = λ j. not_false (is_plain (text_value text t)) h.0 j && each_plain ts h.1 j
+  each_plain (t ∷ ts) h = λ j. not_false (is_label (text_value text t)) h.0 j && each_plain ts h.1 j
 
-  some_unplain : (ts : List Token) (f : Found) → each (label_row text) ts (Some f) → list_all (λ t. is_plain (text_value text t)) ts ≡ false
+  some_unplain : (ts : List Token) (f : Found) → each (label_row text) ts (Some f) → list_all (λ t. is_label (text_value text t)) ts ≡ false
   some_unplain [] f h = absurd h
-  some_unplain (t ∷ ts) f (inl h) = ap (λ b. b && list_all (λ t. is_plain (text_value text t)) ts) h.0
-  some_unplain (t ∷ ts) f (inr h) = ap (λ b. is_plain (text_value text t) && b) (some_unplain ts f h.1) ∙ and_false (is_plain (text_value text t))
+  some_unplain (t ∷ ts) f (inl h) = ap (λ b. b && list_all (λ t. is_label (text_value text t)) ts) h.0
+  some_unplain (t ∷ ts) f (inr h) = ap (λ b. is_label (text_value text t) && b) (some_unplain ts f h.1) ∙ and_false (is_label (text_value text t))
 
   pub plain_list : (ts : List Token) → bytes_eq (word_of text a) (codes "agents") ≡ true → is_string_list a.value ≡ true → leaves a.value ≡ ts → each (label_row text) ts None → tells_owners text a ≡ false → ⊥
   plain_list ts many good are each_one bad =
-      false≢true (sym bad ∙ list_tells many ∙ (λ j. good j && (ap (list_all (λ t. is_plain (text_value text t))) are ∙ each_plain ts each_one) j))
+      false≢true (sym bad ∙ list_tells many ∙ (λ j. good j && (ap (list_all (λ t. is_label (text_value text t))) are ∙ each_plain ts each_one) j))
 
   pub unplain_list : (ts : List Token) (f : Found) → bytes_eq (word_of text a) (codes "agents") ≡ true → leaves a.value ≡ ts → each (label_row text) ts (Some f) → tells_owners text a ≡ false
   unplain_list ts f many are one_bad =
-      list_tells many ∙ ap (λ b. is_string_list a.value && b) (ap (list_all (λ t. is_plain (text_value text t))) are ∙ some_unplain ts f one_bad) ∙ and_false (is_string_list a.value)
+      list_tells many ∙ ap (λ b. is_string_list a.value && b) (ap (list_all (λ t. is_label (text_value text t))) are ∙ some_unplain ts f one_bad) ∙ and_false (is_string_list a.value)
 
   -- an `agent` that tells an owner is a string
   pub one_string : bytes_eq (word_of text a) (codes "agents") ≡ false → (tells_owners text a ≡ false → ⊥) → is_string a.value ≡ true

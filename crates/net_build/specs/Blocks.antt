@@ -169,16 +169,16 @@ is_string_list (leaf token) = false
 is_string_list (list none) = false
 is_string_list (list (more value values)) = is_string value && are_strings values
 
--- a label or an agent: at most 255 bytes, none below 32
-abbrev pub is_plain : List ℕ → Bool
-is_plain bytes = nat_le (length bytes) MOST_NAME_BYTES && list_all (λ b. nat_le 32 b) bytes
+-- a label or an agent's name: at most 255 bytes, none below 32
+abbrev pub is_label : List ℕ → Bool
+is_label bytes = nat_le (length bytes) MOST_NAME_BYTES && list_all (λ b. nat_le 32 b) bytes
 
--- plain strings: one as the value of `agent`, a list of one or more as that of `agents`
+-- strings of a label's form: one as the value of `agent`, a list of one or more as that of `agents`
 abbrev pub tells_owners : List ℕ → AttributeTree → Bool
 tells_owners text a = (if bytes_eq (word_of text a) (codes "agents")
     then is_string_list a.value
     else is_string a.value)
-    && list_all (λ t. is_plain (text_value text t)) (leaves a.value)
+    && list_all (λ t. is_label (text_value text t)) (leaves a.value)
 
 -- the leaves of the first of these attributes, from left to right
 abbrev pub leaves_of : List AttributeTree → List Token

@@ -19,7 +19,7 @@ use Rattle.weight_scale.specs.declared.decimal.Decimal.{Decimal}
 use Rattle.net_build.specs.declared.faults.Limit.TheVariants.{Nodes, NameBytes, States, Agents}
 use Rattle.first_fault.specs.Passes.{Pass, clear, rule, always, only, ◌▸◌, each, each_after, over}
 use Rattle.net_build.specs.Passes.{found, DoubleName, DoubleAttribute, MissingStates, BadStates, BadLabel, BadAgent, RepeatedAgent, MissingTable, NotANumber, WrongCount, NumberTooLong, Negative, ZeroRow, WideWeight, WideValue, LimitPassed, Found}
-use Rattle.net_build.specs.Blocks.{node_blocks, potentials, title_at, block_name, names_of, topic_of, owner_attributes, has_states, has_agent, counted, is_number, is_string_list, is_plain, tells_owners, owner_texts, agents_of, with_sights, place_among, potential_list, parent_lists, data_of, leaves_of, state_attributes}
+use Rattle.net_build.specs.Blocks.{node_blocks, potentials, title_at, block_name, names_of, topic_of, owner_attributes, has_states, has_agent, counted, is_number, is_string_list, is_label, tells_owners, owner_texts, agents_of, with_sights, place_among, potential_list, parent_lists, data_of, leaves_of, state_attributes}
 use Rattle.net_build.specs.Linking.{potentials_steps, missing_steps, graph_steps, size_steps}
 use Rattle.net_build.specs.Scaling.{AreDecimals, IsWholeBy}
 use Rattle.net_build.specs.Stages.{NodeLists, LinkLists, heads_of, head_at, head_rows, node_lists, link_lists}
@@ -37,7 +37,7 @@ repeats text block = each_after (repeated_row text) [] (counted text block)
 
 -- a label has a byte below 32 or more than 255 bytes
 abbrev pub label_row : List ℕ → Token → Pass Found
-label_row text label = rule (is_plain (text_value text label) ≡ false) (found label.start BadLabel)
+label_row text label = rule (is_label (text_value text label) ≡ false) (found label.start BadLabel)
 
 -- the value of `states`
 unfoldable pub label_rows : List ℕ → AttributeTree → Pass Found
@@ -61,7 +61,7 @@ abbrev pub repeated_agent_row : List ℕ → List Token → Token → Pass Found
 repeated_agent_row text earlier agent =
     seen_agent_row (map (text_value text) earlier) agent.start (text_value text agent)
 
--- what tells the owners isn't one or more plain strings, as it must be
+-- what tells the owners isn't one or more strings of a label's form, as it must be
 abbrev pub bad_agent_row : List ℕ → AttributeTree → Pass Found
 bad_agent_row text agents =
     rule (tells_owners text agents ≡ false) (found agents.name.start BadAgent)

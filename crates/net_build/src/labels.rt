@@ -2,7 +2,7 @@
 
 ghost use Rattle.std.specs.Prelude.{◌≡◌, ◌<◌, All, map, length, nat_le, true, IfOk};
 ghost use Rattle.std.specs.List.{list_all};
-ghost use Rattle.net_build.specs.Blocks.{title, is_plain, is_string, is_string_list, is_text, has_states};
+ghost use Rattle.net_build.specs.Blocks.{title, is_label, is_string, is_string_list, is_text, has_states};
 ghost use Rattle.first_fault.specs.Passes.{each};
 ghost use Rattle.first_fault.specs.Answers.{Passes};
 ghost use Rattle.net_build.specs.Passes.{build_fault};
@@ -37,9 +37,9 @@ fn are_printable(bytes: &[u8]) -> bool
     bytes.iter().all(|byte| *byte >= 32)
 }
 
-/// At most 255 bytes, and none below 32.
-pub fn is_plain(bytes: &[u8]) -> bool
-    ensures { result ≡ is_plain bytes.now }
+/// A label or an agent's name: at most 255 bytes, and none below 32.
+pub fn is_label(bytes: &[u8]) -> bool
+    ensures { result ≡ is_label bytes.now }
 {
     bytes.len() <= MOST_NAME_BYTES && are_printable(bytes)
 }
@@ -106,7 +106,7 @@ fn label(alloc: Global, text: &[u8], string: &Token) -> Result<Vec<u8>, BuildFau
     ensures label { IfOk result (λ label. label.items ≡ text_value text.now string.now) }
 {
     let label = text_value(alloc, text, string)?;
-    if !is_plain(&label) {
+    if !is_label(&label) {
         return Err(BuildKind::BadLabel.at(string.start));
     }
     Ok(label)

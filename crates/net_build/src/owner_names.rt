@@ -17,7 +17,7 @@ ghost use Rattle.net_build.specs.NodeCalls.{IsStringOf, value_texts, written_own
 use crate::attributes::{is_named, names_owners, word_of};
 use crate::distinct_names::DistinctNames;
 use crate::faults::{BuildFault, BuildKind};
-use crate::labels::{is_plain, is_string_list, labels};
+use crate::labels::{is_label, is_string_list, labels};
 use crate::leaves::leaves;
 use net_lexer::{Token, TokenKind, text_value};
 use net_parser::{Attribute, Block, BlockKind, Value};
@@ -70,7 +70,7 @@ fn one_name(alloc: Global, text: &[u8], agent: &Attribute<'_>) -> Result<Vec<Vec
         return Err(BuildKind::BadAgent.at(at));
     };
     let name = text_value(alloc, text, token)?;
-    if !is_plain(&name) {
+    if !is_label(&name) {
         return Err(BuildKind::BadAgent.at(at));
     }
     let mut names = Vec::new(alloc);

@@ -54,7 +54,7 @@ module _ (d : DiagramView) (names : NamesView) (is : IsPrintableBehind d names) 
   owners_are : (v : ℕ) → v < length d.nodes → (node_at d.nodes v).kind ≢ Chance → AreOwners (owner_names d.nodes names v)
   owners_are v l owned = record {
     some = omega arith;
-    plain = All-map (λ name. look.is_plain name ≡ true) (agent_name names) (owners_of d.nodes v) (λ k e h. is.form.agents (get_or (owners_of d.nodes v) k e) [] (known (get_or (owners_of d.nodes v) k e) (k, h, get_or_default (owners_of d.nodes v) k (get_or (owners_of d.nodes v) k e) e h)));
+    plain = All-map (λ name. look.is_label name ≡ true) (agent_name names) (owners_of d.nodes v) (λ k e h. is.form.agents (get_or (owners_of d.nodes v) k e) [] (known (get_or (owners_of d.nodes v) k e) (k, h, get_or_default (owners_of d.nodes v) k (get_or (owners_of d.nodes v) k e) e h)));
     differ = agents_apart names.agents (agents_differ d names is) (owners_of d.nodes v) (is.diagram.owners.differ v) known;
   }
     where

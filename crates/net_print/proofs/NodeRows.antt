@@ -1,4 +1,4 @@
--- The attributes of a node's block in a printed text have no fault: each stands once, the labels are strings and plain, and so is the agent.
+-- The attributes of a node's block in a printed text have no fault: each stands once, the labels are strings of a label's form, and so is the agent.
 use Rattle.std.proofs.Common.{◌≡◌, ◌∙◌, ◌≢◌, ℕ, zero, suc, ◌<◌, ◌≤◌, Bool, true, false, ◌&&◌, cond, List, [], ◌∷◌, length, map, filter, All, AllPairs, Contains, None, codes, refl, sym, ap, subst, arith}
 use Rattle.std.specs.List.{list_all}
 use Rattle.std.specs.Prelude.{if◌then◌else◌}
@@ -27,11 +27,11 @@ use Rattle.net_print.proofs.Tree.{block_kind, list_tree, owner_tree, attribute_t
 use Rattle.net_print.proofs.Words.{written, space, items, list_words, owner_words, attribute_words}
 use Rattle.net_print.proofs.Written.{At, at_end, behind, end_at, text_onto, text_onto-append, tokens_at}
 
--- one or more labels, at most 256 and each plain
+-- one or more labels, at most 256 and each of a label's form
 pub record AreLabels (labels : List (List ℕ)) : Type 0 where
   pub some : 0 < length labels
   pub few : length labels ≤ 256
-  pub plain : All (λ label. look.is_plain label ≡ true) labels
+  pub plain : All (λ label. look.is_label label ≡ true) labels
 
 in_one : {A : Type 0} (x y : A) → Contains (x ∷ []) y → x ≡ y
 in_one x y (zero, h, e) = e
@@ -77,29 +77,29 @@ names_apart text tokens names told differ = after_clear (repeated_agent_row text
     not_earlier (map (text_value text) front) (text_value text t) (map (text_value text) back)
     (subst (λ list. AllPairs (λ a b. a ≢ b) list) (sym told ∙ ap (map (text_value text)) (sym e) ∙ map-append (text_value text) front (t ∷ back)) differ))
 
--- all of the strings are plain where their names are
-strings_plain : (text : List ℕ) (tokens : List Token) (names : List (List ℕ)) → map (text_value text) tokens ≡ names → All (λ name. look.is_plain name ≡ true) names → list_all (λ t. look.is_plain (text_value text t)) tokens ≡ true
+-- all of the strings have a label's form where their names do
+strings_plain : (text : List ℕ) (tokens : List Token) (names : List (List ℕ)) → map (text_value text) tokens ≡ names → All (λ name. look.is_label name ≡ true) names → list_all (λ t. look.is_label (text_value text t)) tokens ≡ true
 strings_plain text [] names told plain = refl
 strings_plain text (t ∷ tokens) [] told plain = cc
 strings_plain text (t ∷ tokens) (name ∷ names) told plain =
-    λ j. (ap look.is_plain (first_same told) ∙ All-head (λ l. look.is_plain l ≡ true) name names plain) j && strings_plain text tokens names (rest_same told) (All-tail (λ l. look.is_plain l ≡ true) name names plain) j
+    λ j. (ap look.is_label (first_same told) ∙ All-head (λ l. look.is_label l ≡ true) name names plain) j && strings_plain text tokens names (rest_same told) (All-tail (λ l. look.is_label l ≡ true) name names plain) j
 
--- the owners of a node: some, plain, and each once
+-- the owners of a node: some, of a label's form, and each once
 pub record AreOwners (owners : List (List ℕ)) : Type 0 where
   pub some : 0 < length owners
-  pub plain : All (λ name. look.is_plain name ≡ true) owners
+  pub plain : All (λ name. look.is_label name ≡ true) owners
   pub differ : AllPairs (λ name later. name ≢ later) owners
 
 few : (n m : ℕ) → n ≡ m → m ≤ 256 → 256 < n → ⊥
 few n m e h k = omega arith
 
 module _ (text : List ℕ) where
-  labels_plain : (tokens : List Token) (labels : List (List ℕ)) → map (text_value text) tokens ≡ labels → All (λ label. look.is_plain label ≡ true) labels → each (label_row text) tokens None
+  labels_plain : (tokens : List Token) (labels : List (List ℕ)) → map (text_value text) tokens ≡ labels → All (λ label. look.is_label label ≡ true) labels → each (label_row text) tokens None
   labels_plain [] labels told plain = tt
   labels_plain (t ∷ tokens) [] told plain = cc
   labels_plain (t ∷ tokens) (label ∷ labels) told plain = (
-    λ bad. both_ways (look.is_plain (text_value text t)) bad (ap look.is_plain (first_same told) ∙ All-head (λ l. look.is_plain l ≡ true) label labels plain),
-    labels_plain tokens labels (rest_same told) (All-tail (λ l. look.is_plain l ≡ true) label labels plain),
+    λ bad. both_ways (look.is_label (text_value text t)) bad (ap look.is_label (first_same told) ∙ All-head (λ l. look.is_label l ≡ true) label labels plain),
+    labels_plain tokens labels (rest_same told) (All-tail (λ l. look.is_label l ≡ true) label labels plain),
   )
 
   labels_clear : (a : AttributeTree) (labels : List (List ℕ)) → look.is_string_list a.value ≡ true → map (text_value text) (leaves a.value) ≡ labels → AreLabels labels → label_rows text a None
@@ -120,10 +120,10 @@ module _ (text : List ℕ) where
       let told : map (text_value text) (leaves attribute.value) ≡ labels = ap (map (text_value text)) (sym (first_leaves text (codes "states") attribute others word refl)) ∙ states_leaves text from labels rest at others in
       subst (λ attributes. states_rows text block attributes None) (sym (named_first text (codes "states") attribute others word refl)) (labels_clear attribute labels (labels_strings _ labels are.some) told are)
 
-  -- a value of that shape and of plain strings tells owners
-  tells : (a : AttributeTree) (word : List ℕ) (b : Bool) → look.word_of text a ≡ word → bytes_eq word (codes "agents") ≡ b → cond b (look.is_string_list a.value) (look.is_string a.value) ≡ true → list_all (λ t. look.is_plain (text_value text t)) (leaves a.value) ≡ true → look.tells_owners text a ≡ true
+  -- a value of that shape and of strings of a label's form tells owners
+  tells : (a : AttributeTree) (word : List ℕ) (b : Bool) → look.word_of text a ≡ word → bytes_eq word (codes "agents") ≡ b → cond b (look.is_string_list a.value) (look.is_string a.value) ≡ true → list_all (λ t. look.is_label (text_value text t)) (leaves a.value) ≡ true → look.tells_owners text a ≡ true
   tells a word b named is shape plain =
-      let plains = list_all (λ t. look.is_plain (text_value text t)) (leaves a.value) in
+      let plains = list_all (λ t. look.is_label (text_value text t)) (leaves a.value) in
       ap (λ w. cond (bytes_eq w (codes "agents")) (look.is_string_list a.value) (look.is_string a.value) && plains) named
       ∙ ap (λ t. cond t (look.is_string_list a.value) (look.is_string a.value) && plains) is
       ∙ (λ j. shape j && plain j)

@@ -1,4 +1,4 @@
--- The value is no list of strings, or one whose strings are plain or not.
+-- The value is no list of strings, or one whose strings have a label's form or not.
 use Rattle.std.proofs.Common.{refl, ap, sym, ◌∙◌}
 use Rattle.net_build.specs.Blocks.{is_string_list}
 use Rattle.net_build.specs.declared.faults.BuildFault.TheVariants.{Fault}
