@@ -32,7 +32,7 @@ use Rattle.net_build.specs.Blocks.{node_blocks, block_name, block_parents, paren
 use Rattle.net_build.specs.Linking.{condition_steps, behind_rows, missing_at, size_steps_at}
 use Rattle.net_build.specs.Stages.{head_of, heads_of, head_at, link_lists}
 use Rattle.net_build.specs.declared.nodes.Head.{Head}
-use Rattle.net_build.specs.Table.{repeated_row, repeats, label_row, label_rows, states_rows, repeated_agent_row, agent_rows, sight_row, name_rows, owner_rows, node_rows, node_pass, potential_pass, missing_pass, graph_pass, size_pass, number_row, length_row, sign_row, total_row, rows_by, IsWideTotal, number_rows, weight_part, data_parts, draft_part, node_part, node_rows_at, table_pass, utility_numbers, IsUtilityScale, wide_row, wide_pass, all_passes}
+use Rattle.net_build.specs.Table.{repeated_row, repeats, label_row, label_rows, states_rows, repeated_agent_row, agent_rows, sight_row, name_rows, owner_rows, node_rows, node_pass, potential_pass, missing_pass, graph_pass, size_pass, number_row, length_row, sign_row, total_row, rows_by, IsWideTotal, number_rows, weight_part, data_parts, draft_part, node_part, node_part_at, table_pass, utility_numbers, IsUtilityScale, wide_row, wide_pass, all_passes}
 use Rattle.net_build.proofs.FitLemmas.{known_arcs}
 use Rattle.net_build.proofs.LinksMade.{parents_fit}
 use Rattle.net_build.proofs.PlainTables.{whole_part}
@@ -133,7 +133,7 @@ module _ (decides : DecimalOrNone) (scales : ScaledOrTooWide) (text : List ℕ) 
 
   table_pass_whole : (blocks : List BlockTree) → IsWhole (table_pass text blocks)
   unfolding table_pass
-  table_pass_whole blocks = each_whole {P = node_rows_at text (heads_of text (node_blocks blocks)) (link_lists text blocks)} (λ v. node_part_whole _ _ _ _) _
+  table_pass_whole blocks = each_whole {P = node_part_at text (heads_of text (node_blocks blocks)) (link_lists text blocks)} (λ v. node_part_whole _ _ _ _) _
 
 -- the parents are nodes
 known : (text : List ℕ) (blocks : List BlockTree) → potential_pass text blocks None → (u v : ℕ) → ListedArc (parent_lists text blocks) u v → u < length (parent_lists text blocks)

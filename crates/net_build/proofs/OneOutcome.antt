@@ -17,7 +17,7 @@ use Rattle.net_build.specs.Linking.{condition_steps, behind_rows, missing_at, si
 use Rattle.net_build.specs.Stages.{heads_of, head_at, link_lists}
 use Rattle.net_build.specs.declared.nodes.Head.{Head}
 use Rattle.net_build.specs.Scaling.{IsWholeBy}
-use Rattle.net_build.specs.Table.{repeated_row, repeats, label_row, label_rows, states_rows, repeated_agent_row, agent_rows, sight_row, name_rows, owner_rows, node_rows, node_pass, potential_pass, missing_pass, graph_pass, size_pass, number_row, length_row, sign_row, total_row, data_parts, draft_part, node_part, node_rows_at, table_pass, utility_numbers, IsUtilityScale, wide_row, wide_pass, all_passes}
+use Rattle.net_build.specs.Table.{repeated_row, repeats, label_row, label_rows, states_rows, repeated_agent_row, agent_rows, sight_row, name_rows, owner_rows, node_rows, node_pass, potential_pass, missing_pass, graph_pass, size_pass, number_row, length_row, sign_row, total_row, data_parts, draft_part, node_part, node_part_at, table_pass, utility_numbers, IsUtilityScale, wide_row, wide_pass, all_passes}
 
 pub least_once : (P : ℕ → Type 0) (v w : ℕ) → IsLeast P v → IsLeast P w → v ≡ w
 least_once P v w h k = elim (cases_lt v w) as (λ _. v ≡ w) [
@@ -111,7 +111,7 @@ node_part_one text Utility rows states potential = draft_part_one text Utility r
 
 table_pass_one : (text : List ℕ) (blocks : List BlockTree) → IsOne (table_pass text blocks)
 unfolding table_pass
-table_pass_one text blocks = each_one {P = node_rows_at text (heads_of text (node_blocks blocks)) (link_lists text blocks)} (λ v. node_part_one text _ _ _ _) _
+table_pass_one text blocks = each_one {P = node_part_at text (heads_of text (node_blocks blocks)) (link_lists text blocks)} (λ v. node_part_one text _ _ _ _) _
 
 wide_pass_one : (text : List ℕ) (blocks : List BlockTree) → IsOne (wide_pass text blocks)
 unfolding wide_pass

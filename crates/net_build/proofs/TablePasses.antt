@@ -8,7 +8,7 @@ use Rattle.net_build.specs.Blocks.{is_node, node_blocks, kind_of, block_states, 
 use Rattle.first_fault.specs.Passes.{Pass}
 use Rattle.net_build.specs.Passes.{Found}
 use Rattle.net_build.specs.Stages.{head_of, head_at, link_lists, head_rows, no_head}
-use Rattle.net_build.specs.Table.{node_part, node_rows_at, potential_at, table_pass, no_block}
+use Rattle.net_build.specs.Table.{node_part, node_part_at, potential_at, table_pass, no_block}
 use Rattle.net_build.proofs.BlockLemmas.{all_filter}
 use Rattle.net_build.proofs.LinkLemmas.{number_at}
 
@@ -47,7 +47,7 @@ module _ (text : List ℕ) (blocks : List BlockTree) where
   abbrev own_part : BlockTree → Pass Found
   own_part b = node_part text (kind_of b.kind) (row_count text blocks b) (block_states text b) (potential_of text blocks (block_name text b))
 
-  pub part_here : (v : ℕ) → v < length nodes → node_rows_at text heads (link_lists text blocks) v ≡ own_part (block_at v)
+  pub part_here : (v : ℕ) → v < length nodes → node_part_at text heads (link_lists text blocks) v ≡ own_part (block_at v)
   part_here v h = λ i. node_part text (head_here v h i).kind (rows_here v h i) (head_here v h i).states (potential_here v h i)
 
   -- each is a node block
@@ -57,4 +57,4 @@ module _ (text : List ℕ) (blocks : List BlockTree) where
   -- the rows of a node of which nothing is found
   pub part_none : table_pass text blocks None → (v : ℕ) → v < length nodes → own_part (block_at v) None
   unfolding table_pass
-  part_none nothing v h = subst (λ (P : Pass Found). P None) (part_here v h) (number_at (node_rows_at text heads (link_lists text blocks)) (length heads) v nothing (omega (arith, h, length-map nodes (head_of text nodes))))
+  part_none nothing v h = subst (λ (P : Pass Found). P None) (part_here v h) (number_at (node_part_at text heads (link_lists text blocks)) (length heads) v nothing (omega (arith, h, length-map nodes (head_of text nodes))))

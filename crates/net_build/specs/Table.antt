@@ -186,14 +186,14 @@ IsWideTotal text states numbers = (decimals : List Decimal) × AreDecimals
     (map (token_bytes text) numbers) decimals × IsTooWide decimals states
 
 -- another count of numbers than the table has cells
-abbrev pub count_row : ℕ → ℕ → ℕ → Pass Found
-count_row at want got = rule (got ≢ want) (found at (WrongCount want got))
+abbrev pub wrong_count_row : ℕ → ℕ → ℕ → Pass Found
+wrong_count_row at want got = rule (got ≢ want) (found at (WrongCount want got))
 
 -- the leaves of `data`, whatever the table
 abbrev pub number_rows : List ℕ → ℕ → AttributeTree → Pass Found
 number_rows text want table =
     each number_row (leaves table.value)
-    ▸ count_row table.name.start want (length (leaves table.value))
+    ▸ wrong_count_row table.name.start want (length (leaves table.value))
     ▸ each (length_row text) (leaves table.value)
 
 -- these numbers as those of a chance table whose `data` stands at a place
@@ -234,14 +234,14 @@ abbrev pub potential_at : LinkLists → ℕ → Option BlockTree
 potential_at links v = slice_index_or links.potentials v None
 
 -- node v by its head, its rows and its potential
-abbrev pub node_rows_at : List ℕ → List Head → LinkLists → ℕ → Pass Found
-node_rows_at text heads links v = node_part text (head_at heads v).kind
+abbrev pub node_part_at : List ℕ → List Head → LinkLists → ℕ → Pass Found
+node_part_at text heads links v = node_part text (head_at heads v).kind
     (head_rows heads links.parents v) (head_at heads v).states (potential_at links v)
 
 -- the nodes in order
 abbrev pub drafts_pass : List ℕ → List Head → LinkLists → Pass Found
 drafts_pass text heads links =
-    each (node_rows_at text heads links) (range_with_len 0 (length heads))
+    each (node_part_at text heads links) (range_with_len 0 (length heads))
 
 -- chance and utility nodes in text order
 unfoldable pub table_pass : List ℕ → List BlockTree → Pass Found

@@ -28,7 +28,7 @@ use Rattle.net_build.specs.declared.faults.BuildFault.{BuildFault}
 use Rattle.net_build.specs.Passes.{build_fault}
 use Rattle.first_fault.specs.Answers.{Passes}
 use Rattle.first_fault.specs.Passes.{each}
-pub use Rattle.net_build.specs.Table.{count_row, number_rows, weight_part, data_part, data_parts, table_part, draft_part, node_part, potential_at, node_rows_at, drafts_pass, values_in, IsScaleOf, scaled_pass}
+pub use Rattle.net_build.specs.Table.{wrong_count_row, number_rows, weight_part, data_part, data_parts, table_part, draft_part, node_part, potential_at, node_part_at, drafts_pass, values_in, IsScaleOf, scaled_pass}
 
 -- the decimal times 10^scale, where it has no more decimals than that
 abbrev pub value_at_scale : ℕ → Decimal → ℤ

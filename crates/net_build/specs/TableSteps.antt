@@ -8,7 +8,7 @@ use Rattle.net_build.specs.declared.nodes.Head.{Head}
 use Rattle.net_build.specs.Passes.{build_fault}
 use Rattle.net_build.specs.Stages.{LinkLists, NodeLists, link_lists}
 use Rattle.net_build.specs.TableCalls.{head_table_part}
-use Rattle.net_build.specs.TableParts.{AreDrafts, drafts_pass, node_rows_at}
+use Rattle.net_build.specs.TableParts.{AreDrafts, drafts_pass, node_part_at}
 
 -- the table of a node with that head and so many rows, from its potential
 abbrev pub PassesTable :
@@ -20,7 +20,7 @@ PassesTable text head rows potential result =
 abbrev pub PassesNodeTable :
     {A : Type 0} → List ℕ → List Head → LinkLists → ℕ → Result A BuildFault → Type 0
 PassesNodeTable text heads links node result =
-    Passes build_fault (node_rows_at text heads links node) result
+    Passes build_fault (node_part_at text heads links node) result
 
 -- the potential at that place is set, and no other
 abbrev pub SetsPotential : {P : Type 0} → List (Option P) → List (Option P) → ℕ → P → Type 0

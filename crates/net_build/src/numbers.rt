@@ -7,7 +7,7 @@ ghost use Rattle.first_fault.specs.Answers.{Passes};
 ghost use Rattle.net_build.specs.Passes.{build_fault};
 ghost use Rattle.net_build.specs.Scaling.{TellDecimals};
 ghost use Rattle.net_build.specs.Table.{IsNumberTooLong, number_row, length_row};
-ghost use Rattle.net_build.specs.TableParts.{count_row, number_rows};
+ghost use Rattle.net_build.specs.TableParts.{wrong_count_row, number_rows};
 ghost use Rattle.net_lexer.specs.Token.{IsTokenOf, token_bytes};
 ghost use Rattle.net_parser.specs.Owned.{IsAttributeOf, leaves};
 ghost use Rattle.weight_scale.specs.Numeral.{IsDecimalOfNumeral};
@@ -32,7 +32,7 @@ fn check_numbers(tokens: &[Token]) -> Result<(), BuildFault>
 
 // There are as many numbers as the table has cells.
 fn check_count(at: u32, want: usize, got: usize) -> Result<(), BuildFault>
-    ensures { Passes build_fault (count_row at want got) result }
+    ensures { Passes build_fault (wrong_count_row at want got) result }
 {
     if got == want {
         Ok(())

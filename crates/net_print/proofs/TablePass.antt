@@ -14,7 +14,7 @@ use Rattle.first_fault.specs.Passes.{Pass, each}
 use Rattle.net_build.specs.Passes.{Found}
 use Rattle.net_build.specs.Stages.{head_of, heads_of, link_lists}
 use Rattle.net_build.specs.declared.nodes.Head.{Head}
-use Rattle.net_build.specs.Table.{table_pass, node_rows_at, node_part, draft_part, data_parts, weight_part, length_row}
+use Rattle.net_build.specs.Table.{table_pass, node_part_at, node_part, draft_part, data_parts, weight_part, length_row}
 use Rattle.net_lexer.specs.Token.{token_bytes}
 use Rattle.net_lexer.specs.declared.tokens.Token.{Token}
 use Rattle.net_lexer.specs.declared.tokens.TokenKind.TheVariants.{Number}
@@ -97,14 +97,14 @@ module _ (d : DiagramView) (names : NamesView) (is : IsPrintableBehind d names) 
         subst (λ attributes. data_parts Text node.kind (rows_of d.nodes v) node.states potential attributes None) (sym (potential_data d names is v found.0 found.1 found.2)) clear,
       )
 
-  rows_clear : (v : ℕ) → v < length d.nodes → node_rows_at Text Heads (link_lists Text Blocks) v None
+  rows_clear : (v : ℕ) → v < length d.nodes → node_part_at Text Heads (link_lists Text Blocks) v None
   rows_clear v l = subst (λ (P : Pass Found). P None) (λ i. node_part Text (sym (head_kinds d names is v) i) (sym (rows_told d names is) i v) (sym (head_states d names is v) i) (sym (listed_potential d names is v l) i))
       (node_clear Text (node_at d.nodes v).kind (rows_of d.nodes v) (states_of d.nodes v) (potential_tree d names (potential_found d names is v l).0 v) (table_clear v l))
 
   -- No table has a fault.
   pub tables_clear : table_pass Text Blocks None
   unfolding table_pass
-  tables_clear = each_clear (node_rows_at Text Heads (link_lists Text Blocks)) (range_with_len 0 (length Heads)) (λ k e h. rows_clear (get_or (range_with_len 0 (length Heads)) k e) (omega (arith, numbers_below (length Heads) k e h, length-map (look.node_blocks Blocks) (head_of Text (look.node_blocks Blocks)), blocks_count d names is)))
+  tables_clear = each_clear (node_part_at Text Heads (link_lists Text Blocks)) (range_with_len 0 (length Heads)) (λ k e h. rows_clear (get_or (range_with_len 0 (length Heads)) k e) (omega (arith, numbers_below (length Heads) k e h, length-map (look.node_blocks Blocks) (head_of Text (look.node_blocks Blocks)), blocks_count d names is)))
 
   table_is : (v : ℕ) → v < length d.nodes → (kind : Kind) → (node_at d.nodes v).kind ≡ kind → IsTableFrom kind d.decimals (states_of d.nodes v) (number_texts kind d.decimals (states_of d.nodes v) (rows_of d.nodes v) (node_at d.nodes v).cells) (node_at d.nodes v).cells
   table_is v l Chance kind = chance_cells (node_at d.nodes v).cells (rows_of d.nodes v) (states_of d.nodes v) (chance_total d.nodes v) (is.diagram.tables.table v kind) (is.diagram.tables.positive v kind) (is.diagram.limits.totals v kind) (is.diagram.graph.has_state v) (is.plain.weights v kind)
