@@ -10,11 +10,11 @@ use Rattle.maid_model.specs.declared.diagrams.Kind.TheVariants.{Decision}
 use Rattle.maid_model.specs.Nodes.{is_decision}
 use Rattle.net_build.specs.declared.faults.BuildFault.{BuildFault}
 use Rattle.net_build.specs.declared.nodes.Head.{Head}
-use Rattle.net_build.specs.Linking.{cells_of_head_over, cells_row, rules_row, size_rows_over, rules_before}
+use Rattle.net_build.specs.Linking.{cells_row, rules_row, size_rows_over, rules_before}
 use Rattle.first_fault.specs.Passes.{only}
 use Rattle.first_fault.specs.Answers.{IsFaultOrNoMemory}
 use Rattle.net_build.specs.Passes.{build_fault}
-use Rattle.net_build.specs.Stages.{head_at, cells_of_head}
+use Rattle.net_build.specs.Stages.{head_at, cells_of_head_over, cells_of_head}
 use Rattle.first_fault.proofs.Leading.{refused_later}
 use Rattle.net_build.proofs.LinkLemmas.{range_more}
 

@@ -1,6 +1,6 @@
 -- The rows of the passes over potentials, the graph and the sizes: they speak of the names and heads of the nodes,
 -- their parents and their potentials, as lists.
-use Rattle.std.specs.Prelude.{◌≡◌, ◌≢◌, ◌<◌, ◌≤◌, ◌+◌, ◌*◌, min, not, ℕ, List, [], Option, None, Some, map, filter, find, length, sum, All, Contains, slice_index, slice_index_or, bytes_eq, if◌then◌else◌}
+use Rattle.std.specs.Prelude.{◌≡◌, ◌≢◌, ◌<◌, ◌≤◌, ◌+◌, min, not, ℕ, List, [], Option, None, Some, map, filter, find, length, sum, All, Contains, slice_index, slice_index_or, bytes_eq, if◌then◌else◌}
 use Rattle.std.specs.List.{range_with_len}
 use Rattle.std.specs.Borrow.{Bor}
 use Rattle.std.specs.Option.{IsSome, option_map, option_map_or}
@@ -9,7 +9,7 @@ use Rattle.diagram_graph.specs.Cycles.{ListedArc, IsParentCycle}
 use Rattle.maid_model.specs.declared.diagrams.Kind.{Kind}
 use Rattle.maid_model.specs.declared.diagrams.Kind.TheVariants.{Chance, Utility}
 use Rattle.maid_model.specs.Graph.{IsAcyclic, AllDifferent}
-use Rattle.maid_model.specs.Nodes.{is_decision, rows_under}
+use Rattle.maid_model.specs.Nodes.{is_decision}
 use Rattle.net_lexer.specs.Token.{token_bytes}
 use Rattle.net_lexer.specs.declared.tokens.Token.{Token}
 use Rattle.net_parser.specs.Trees.{BlockTree}
@@ -18,7 +18,7 @@ use Rattle.net_build.specs.declared.nodes.Head.{Head}
 use Rattle.first_fault.specs.Passes.{Pass, rule, only, ◌▸◌, each, each_after}
 use Rattle.net_build.specs.Passes.{found, UnknownName, DoublePotential, RepeatedParent, UtilityParent, MissingTable, GraphCycle, LimitPassed, Found}
 use Rattle.net_build.specs.Blocks.{title, block_name, potentials, conditions, place_among}
-use Rattle.net_build.specs.Stages.{head_at, cells_of_head}
+use Rattle.net_build.specs.Stages.{head_at, cells_of_head_over, cells_of_head}
 
 -- the number of the node of that name
 abbrev pub node_named : List ℕ → List (List ℕ) → Token → ℕ
@@ -134,14 +134,6 @@ abbrev pub graph_steps : List Head → List (List ℕ) → Pass Found
 graph_steps heads parents None = IsAcyclic (ListedArc parents)
 graph_steps heads parents (Some f) = (cycle : List ℕ) × IsParentCycle parents cycle
     × (f ≡ found (head_at heads (slice_index cycle 0)).at (GraphCycle cycle))
-
--- the rows of node v over these parents
-abbrev pub rows_over : List Head → List ℕ → ℕ
-rows_over heads parents = rows_under (λ u. (head_at heads u).states) parents
-
--- its cells
-abbrev pub cells_of_head_over : List Head → List ℕ → ℕ → ℕ
-cells_of_head_over heads parents v = rows_over heads parents * (head_at heads v).states
 
 -- they are too many; the count is named up to 10^18
 abbrev pub cells_row : List Head → List ℕ → ℕ → Pass Found

@@ -103,13 +103,21 @@ no_head = record { at = 0; kind = Utility; owner = 0; states = 1 }
 abbrev pub head_at : List Head → ℕ → Head
 head_at heads v = slice_index_or heads v no_head
 
+-- how many rows a table over these parents has
+abbrev pub rows_over : List Head → List ℕ → ℕ
+rows_over heads parents = rows_under (λ u. (head_at heads u).states) parents
+
+-- how many cells node v over these parents has
+abbrev pub cells_of_head_over : List Head → List ℕ → ℕ → ℕ
+cells_of_head_over heads parents v = rows_over heads parents * (head_at heads v).states
+
 -- how many rows node v has
 abbrev pub head_rows : List Head → List (List ℕ) → ℕ → ℕ
-head_rows heads parents v = rows_under (λ u. (head_at heads u).states) (slice_index_or parents v [])
+head_rows heads parents v = rows_over heads (slice_index_or parents v [])
 
 -- how many cells node v has
 abbrev pub cells_of_head : List Head → List (List ℕ) → ℕ → ℕ
-cells_of_head heads parents v = head_rows heads parents v * (head_at heads v).states
+cells_of_head heads parents v = cells_of_head_over heads (slice_index_or parents v []) v
 
 -- the parents make a graph within the limits
 pub record AreLinks (heads : List Head) (parents : List (List ℕ)) : Type 0 where

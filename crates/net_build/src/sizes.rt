@@ -2,11 +2,12 @@
 
 ghost use Rattle.std.specs.Prelude.{◌≡◌, ◌<◌, ◌≤◌, ◌*◌, min, length, All, IfOk, OnOk};
 ghost use Rattle.maid_model.specs.declared.limits.TheConstants.{COUNT_END, MOST_CELLS, MOST_RULE_CELLS};
-ghost use Rattle.net_build.specs.Linking.{rows_over, cells_of_head_over, cells_row, rules_row, size_rows_over, size_steps, rules_with};
+ghost use Rattle.net_build.specs.Linking.{cells_row, rules_row, size_rows_over, size_steps, rules_with};
 ghost use Rattle.net_build.specs.Lists.{numbers_of_lists};
 ghost use Rattle.first_fault.specs.Answers.{Passes};
 ghost use Rattle.net_build.specs.Passes.{build_fault};
 ghost use Rattle.net_build.specs.LinkCalls.{HaveFewCells, HaveFewRuleCells};
+ghost use Rattle.net_build.specs.Stages.{rows_over, cells_of_head_over};
 
 use crate::faults::{BuildFault, BuildKind, Limit};
 use crate::nodes::Head;
@@ -20,8 +21,8 @@ fn times(count: u128, states: usize) -> u128
     (count * states as u128).min(COUNT_END)
 }
 
-// How many rows a table over these parents has, counted up to 10^18.
-fn count_rows(heads: &[Head], parents: &[usize]) -> u128
+/// How many rows a table over these parents has, counted up to 10^18.
+pub fn count_rows(heads: &[Head], parents: &[usize]) -> u128
     requires { All (λ u. u < length heads.now) parents.now }
     ensures { result ≡ min (rows_over heads.now parents.now) COUNT_END }
 {

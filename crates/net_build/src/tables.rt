@@ -1,14 +1,12 @@
 //! The tables of a text: the cells of each node, and the scale of the utilities.
 
 ghost use Rattle.std.specs.Prelude.{◌≡◌, ◌↔◌, IsTrue, ◌<◌, ◌≤◌, All, map, length, None, IfOk};
-ghost use Rattle.maid_model.specs.declared.limits.TheConstants.{MOST_CELLS};
-ghost use Rattle.maid_model.specs.Nodes.{rows_under};
 ghost use Rattle.net_build.specs.Blocks.{node_blocks};
 ghost use Rattle.net_build.specs.Building.{AreTables};
 ghost use Rattle.net_build.specs.Lists.{cells_of_lists};
 ghost use Rattle.first_fault.specs.Answers.{Passes};
 ghost use Rattle.net_build.specs.Passes.{build_fault};
-ghost use Rattle.net_build.specs.Stages.{AreLinks, TablesFit, head_at, link_lists, node_lists};
+ghost use Rattle.net_build.specs.Stages.{AreLinks, TablesFit, link_lists, node_lists};
 ghost use Rattle.net_build.specs.Table.{IsUtilityScale, missing_pass, node_pass, potential_pass};
 ghost use Rattle.net_build.specs.TableParts.{AreDrafts, CanReadTables, FitsDraft, HasDecimalsAtMost, IsDraftAt, drafts_pass, finished};
 ghost use Rattle.net_parser.specs.Owned.{IsBlockOf};
@@ -18,8 +16,9 @@ ghost use Rattle.net_build.specs.TableSteps.{AreDraftsIn, PassesDrafts, PassesNo
 use crate::drafts::{Draft, finish_draft, read_draft, values};
 use crate::faults::BuildFault;
 use crate::links::Links;
-use crate::nodes::{Head, Nodes};
+use crate::nodes::Nodes;
 use crate::scales::{all_fit, most_decimals, scale_of};
+use crate::sizes::count_rows;
 use crate::utilities::utility_numbers;
 use net_parser::Syntax;
 use std::alloc::{AllocError, Global};
@@ -42,20 +41,6 @@ impl Model for Tables {
         record { cells = map (λ row. row.items) t.cells.items; decimals = t.decimals } };
 }
 
-// How many rows a table over these parents has.
-fn row_count(heads: &[Head], parents: &[usize]) -> usize
-    requires known { All (λ u. u < length heads.now) parents.now }
-    requires states { All (λ h. 0 < h.states) heads.now }
-    requires small { rows_under (λ u. (head_at heads.now u).states) parents.now ≤ MOST_CELLS }
-    ensures { result ≡ rows_under (λ u. (head_at heads.now u).states) parents.now }
-{
-    let mut rows = 1;
-    for parent in parents {
-        rows *= heads[*parent].states;
-    }
-    rows
-}
-
 // A node's table, before the scale of utilities is known.
 fn read_node(
     alloc: Global,
@@ -69,12 +54,13 @@ fn read_node(
     ensures rows { PassesNodeTable text.now nodes.now.heads links.now node result }
     ensures draft { IfOk result (IsDraftAt text.now nodes.now.heads links.now node) }
 {
-    let rows = row_count(&nodes.heads, &links.parents[node]);
+    // The rows are within the limit of cells, so that their count was not cut off.
+    let rows = count_rows(&nodes.heads, &links.parents[node]);
     read_draft(
         alloc,
         text,
         &nodes.heads[node],
-        rows,
+        rows as usize,
         links.potentials[node],
     )
 }

@@ -3,9 +3,9 @@ use Rattle.std.proofs.Common.{◌≡◌, ℕ, ◌+◌, ◌<◌, ◌≤◌, List,
 use Rattle.std.proofs.lemmas.List.{get_or-map, length-map}
 use Rattle.std.specs.Global.{Vec}
 use Rattle.maid_model.specs.Nodes.{is_decision}
-use Rattle.net_build.specs.Linking.{cells_of_head_over, size_steps_at, size_steps}
+use Rattle.net_build.specs.Linking.{size_steps_at, size_steps}
 use Rattle.net_build.specs.Lists.{numbers_of_lists}
-use Rattle.net_build.specs.Stages.{head_at, cells_of_head}
+use Rattle.net_build.specs.Stages.{head_at, cells_of_head_over, cells_of_head}
 use Rattle.first_fault.proofs.HandedOn.{hands_on}
 use Rattle.net_build.specs.Passes.{build_fault}
 use Rattle.net_build.proofs.LinkLemmas.{range_on, range_refused}

@@ -2,8 +2,7 @@
 use Rattle.std.proofs.Common.{ℕ, ◌+◌, ◌*◌, ◌^◌, min, List, drop, get_or, sym, ap, ◌∙◌, arith}
 use Rattle.std.proofs.lemmas.List.{get_or_default}
 use Rattle.net_build.specs.declared.nodes.Head.{Head}
-use Rattle.net_build.specs.Linking.{rows_over}
-use Rattle.net_build.specs.Stages.{head_at, no_head}
+use Rattle.net_build.specs.Stages.{head_at, no_head, rows_over}
 use Rattle.first_fault.proofs.Leading.{drop_item}
 use Rattle.net_build.proofs.SizeLemmas.{counted_on}
 use Rattle.net_build.proofs.sizes.count_rows.Goals as goal

@@ -1,5 +1,5 @@
 use Rattle.std.proofs.Common.{◌≡◌, ◌≤◌, ◌*◌, ◌^◌, min, drop}
-use Rattle.net_build.specs.Linking.{rows_over}
+use Rattle.net_build.specs.Stages.{rows_over}
 use Rattle.net_build.proofs.sizes.count_rows.Given as goal
 
 -- the rows so far times those still to come are the rows, counted up to 10^18
