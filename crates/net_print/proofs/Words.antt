@@ -3,6 +3,7 @@ use Rattle.std.proofs.Common.{◌≡◌, ◌∙◌, ℕ, ◌<◌, true, false, L
 use Rattle.std.specs.List.{flat_map, list_all}
 use Rattle.std.proofs.lemmas.Bool.{or_parts, or_left}
 use Rattle.std.proofs.lemmas.List.Elements.{All-head, All-tail}
+use Rattle.std.proofs.lemmas.List.Folds.{flat_map-map}
 use Rattle.maid_model.specs.declared.diagrams.Kind.{Kind}
 use Rattle.maid_model.specs.declared.diagrams.Kind.TheVariants.{Chance, Decision, Utility}
 use Rattle.maid_model.specs.Names.{NamesView, name_of, labels_of}
@@ -281,7 +282,10 @@ head_writes names v [] named all = record {
   );
 }
 head_writes names v (u ∷ us) named all = record {
-  onto = λ rest. ap (λ more. codes "potential (" ++ (name_of names v ++ (32 ∷ 124 ∷ 32 ∷ more))) (text_onto-append (items Word (name_of names) (u ∷ us)) (paren_close space ∷ []) rest ∙ items_onto Word (name_of names) (u ∷ us) (41 ∷ 32 ∷ rest)) ∙ sym (simp append_assoc);
+  onto = λ rest.
+      let parted_by_one : text_onto (head_words names v (u ∷ us)) rest ≡ ((codes "potential (" ++ name_of names v ++ (codes " | " ++ parted (name_of names) (u ∷ us)) ++ codes ")") ++ space) ++ rest =
+      ap (λ more. codes "potential (" ++ (name_of names v ++ (32 ∷ 124 ∷ 32 ∷ more))) (text_onto-append (items Word (name_of names) (u ∷ us)) (paren_close space ∷ []) rest ∙ items_onto Word (name_of names) (u ∷ us) (41 ∷ 32 ∷ rest)) ∙ sym (simp append_assoc) in
+      parted_by_one ∙ ap (λ later. ((codes "potential (" ++ name_of names v ++ (codes " | " ++ (name_of names u ++ later)) ++ codes ")") ++ space) ++ rest) (sym (flat_map-map (λ piece. 32 ∷ piece) (name_of names) us));
   stands = λ rest. (
     potential_fits _,
     (

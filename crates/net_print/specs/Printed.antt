@@ -6,7 +6,7 @@ use Rattle.maid_model.specs.declared.diagrams.Kind.{Kind}
 use Rattle.maid_model.specs.declared.diagrams.Kind.TheVariants.{Chance, Decision, Utility}
 use Rattle.maid_model.specs.Names.{NamesView, name_of, labels_of, agent_name}
 use Rattle.maid_model.specs.Nodes.{node_at, owners_of, rows_of, numbers_of, states_of}
-use Rattle.maid_model.specs.Reports.{line, quoted}
+use Rattle.maid_model.specs.Reports.{line, quoted, spaced}
 use Rattle.maid_model.specs.Views.{NodeView, DiagramView}
 use Rattle.net_build.specs.Plain.{reduced_rows}
 
@@ -69,7 +69,7 @@ nodes_text nodes names = flat_map (node_line nodes names) (numbers_of nodes)
 -- the names of the parents behind a bar; without parents there is no bar
 abbrev pub parents_text : NamesView → List ℕ → List ℕ
 parents_text names [] = []
-parents_text names (u ∷ us) = codes " | " ++ parted (name_of names) (u ∷ us)
+parents_text names (u ∷ us) = codes " |" ++ spaced (map (name_of names) (u ∷ us))
 
 -- the digits of a number with noughts before them, so many in all
 abbrev pub padded : ℕ → ℕ → List ℕ

@@ -1,8 +1,8 @@
 //! The lines of potentials.
 
-ghost use Rattle.std.specs.Prelude.{◌≡◌, ◌<◌, ◌≤◌, All, length};
+ghost use Rattle.std.specs.Prelude.{◌≡◌, ◌<◌, ◌≤◌, length};
 ghost use Rattle.maid_model.specs.declared.diagrams.Kind.TheVariants.{Chance};
-ghost use Rattle.maid_model.specs.Names.{NamesFit, name_of};
+ghost use Rattle.maid_model.specs.Names.{NamesFit};
 ghost use Rattle.maid_model.specs.Nodes.{node_at};
 ghost use Rattle.net_print.specs.Printed.{parted, potential_line, value_text, numbers_text_of, potentials_text, table_text_of};
 ghost use Rattle.line_pieces.specs.Pushed.{PushAppends};
@@ -10,20 +10,9 @@ ghost use Rattle.net_print.specs.NodeTexts.{given_text_of, head_text_of, rows_te
 
 use crate::numbers::{push_reduced_row, push_value};
 use crate::pieces::push_gap;
+use line_pieces::push_names;
 use maid_model::{Diagram, Kind, Names};
 use std::alloc::AllocError;
-
-// Appends the names of these nodes, parted by one space.
-fn push_names(out: &mut Vec<u8>, names: &Names, list: &[usize]) -> Result<(), AllocError>
-    requires { All (λ v. v < length names.now.nodes) list.now }
-    ensures { PushAppends out.old out.new result (parted (name_of names.now) list.now) }
-{
-    for (place, node) in list.iter().enumerate() {
-        push_gap(out, place)?;
-        out.extend_from_slice(names.name(*node))?;
-    }
-    Ok(())
-}
 
 // Appends a bar and the names of the parents, if there are any.
 #[tactic(auto, using(std::proofs::Common::append_assoc))]
@@ -41,7 +30,7 @@ fn push_given(
     if parents.is_empty() {
         return Ok(());
     }
-    out.extend_from_slice(b" | ")?;
+    out.extend_from_slice(b" |")?;
     push_names(out, names, parents)
 }
 
