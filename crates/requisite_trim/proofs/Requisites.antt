@@ -1,13 +1,14 @@
 -- What a search from the goals of a decision tells of its parents.
-use Rattle.std.proofs.Common.{◌≢◌, ℕ, List, inl, inr}
+use Rattle.std.proofs.Common.{◌≢◌, ◌<◌, ℕ, List, length, inl, inr}
+use Rattle.std.specs.Prelude.{◌↔◌}
 use Rattle.maid_model.specs.Views.{NodeView}
 use Rattle.maid_model.specs.Graph.{Arc}
-use Rattle.maid_model.specs.Relevance.{IsLive, IsInFamily, IsInFamilyBut}
+use Rattle.maid_model.specs.Relevance.{IsLive, IsInFamily, IsInFamilyBut, IsRequisite}
+use Rattle.node_sets.specs.Sets.{IsIn}
 use Rattle.bayes_ball.proofs.Turning.{first_live}
 use Rattle.bayes_ball.specs.Search.{TellsWalksToGoals}
 use Rattle.bayes_ball.specs.declared.marks.Marks.{Marks}
 use Rattle.requisite_trim.proofs.Cutting.{reached_either}
-use Rattle.requisite_trim.specs.Steps.{TellsRequisites}
 
 -- but for x the search is given what is given when x is asked about
 module _ (nodes : List NodeView) (d x y : ℕ) where
@@ -20,7 +21,8 @@ module _ (nodes : List NodeView) (d x y : ℕ) where
   of_other (inr a) = inr a.0
 
 -- the search reaches x exactly where x would be a requisite parent
-pub requisites_told : (nodes : List NodeView) (d : ℕ) (marks : Marks) → TellsWalksToGoals nodes d marks → TellsRequisites nodes d marks
+pub requisites_told : (nodes : List NodeView) (d : ℕ) (marks : Marks) → TellsWalksToGoals nodes d marks
+    → (x : ℕ) → x < length nodes → IsIn marks.reached x ↔ IsRequisite nodes d x
 requisites_told nodes d marks search x within =
     let F = IsInFamily (Arc nodes) d in
     let B = IsInFamilyBut (Arc nodes) d x in

@@ -1,16 +1,9 @@
 -- What the steps of trimming promise one another. Only private functions cite this file.
-use Rattle.std.specs.Prelude.{◌≡◌, ◌↔◌, ℕ, ◌<◌, List, length, slice_index, Option, MatchOption}
+use Rattle.std.specs.Prelude.{◌≡◌, ℕ, ◌<◌, List, length, slice_index, Option, MatchOption}
 use Rattle.maid_model.specs.Views.{NodeView}
 use Rattle.maid_model.specs.Nodes.{IsDecision, parents_of}
 use Rattle.maid_model.specs.Relevance.{IsRequisite}
 use Rattle.maid_model.specs.Trimming.{IsFirstToRemove, SeesRequisites}
-use Rattle.node_sets.specs.Sets.{IsIn}
-use Rattle.bayes_ball.specs.declared.marks.Marks.{Marks}
-
--- the marks tell which nodes would be requisite parents of d
-abbrev pub TellsRequisites : List NodeView → ℕ → Marks → Type 0
-TellsRequisites nodes d marks =
-    (x : ℕ) → x < length nodes → IsIn marks.reached x ↔ IsRequisite nodes d x
 
 -- each parent of v is requisite, if v is a decision
 abbrev pub SeesRequisitesAt : List NodeView → ℕ → Type 0
