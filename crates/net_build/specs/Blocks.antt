@@ -192,7 +192,7 @@ state_attributes text block = named text (codes "states") block.attributes
 -- a node's labels as they stand in its block
 abbrev pub label_tokens : List ℕ → BlockTree → List Token
 label_tokens text block =
-    if has_states block.kind then leaves_of (named text (codes "states") block.attributes) else []
+    if has_states block.kind then leaves_of (state_attributes text block) else []
 
 -- a node's labels, with escapes undone; a utility has none
 abbrev pub block_labels : List ℕ → BlockTree → List (List ℕ)

@@ -57,10 +57,8 @@ attributes_of nodes names v =
 
 -- a node's block
 abbrev pub node_line : List NodeView → NamesView → ℕ → List ℕ
-node_line nodes names v =
-    let node = node_at nodes v in
-    line (kind_word node.kind ++ 32 ∷ name_of names v
-    ++ body_text (attributes_text node.kind (labels_of names v) (owner_names nodes names v)))
+node_line nodes names v = line (kind_word (node_at nodes v).kind ++ 32 ∷ name_of names v
+    ++ body_text (attributes_of nodes names v))
 
 -- the node blocks, a line each
 abbrev pub nodes_text : List NodeView → NamesView → List ℕ
@@ -127,9 +125,7 @@ head_text names v parents =
 -- a node's potential
 abbrev pub potential_line : DiagramView → NamesView → ℕ → List ℕ
 potential_line d names v =
-    let node = node_at d.nodes v in
-    line (head_text names v node.parents
-    ++ body_text (table_text node.kind d.decimals node.states (rows_of d.nodes v) node.cells))
+    line (head_text names v (node_at d.nodes v).parents ++ body_text (table_text_of d v))
 
 -- the potentials, a line each
 abbrev pub potentials_text : DiagramView → NamesView → List ℕ
