@@ -22,8 +22,12 @@ pub(crate) fn copy_node(alloc: Global, node: &Node) -> Result<Node, AllocError>
     })
 }
 
-/// Copies of all nodes.
-pub(crate) fn copy_nodes(alloc: Global, diagram: &Diagram) -> Result<Vec<Node>, AllocError>
+/// Copies of all nodes, in their order. They take the time and the memory of all cells.
+///
+/// # Errors
+///
+/// Only where memory runs out.
+pub fn copy_nodes(alloc: Global, diagram: &Diagram) -> Result<Vec<Node>, AllocError>
     ensures { IfOk result (λ nodes. nodes.items ≡ diagram.now.nodes) }
 {
     let mut nodes = Vec::with_capacity(alloc, diagram.count())?;

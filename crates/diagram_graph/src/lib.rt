@@ -19,7 +19,7 @@ mod rounds;
 
 pub use adding::{AddFault, add_arc, is_too_large};
 pub use arcs::{RemoveFault, remove_arc};
-pub use copies::copy_diagram;
+pub use copies::{copy_diagram, copy_nodes};
 pub use cycles::{first_cycle, topological};
 pub use kinds::{MakeFault, fix_others, make_decision};
 pub use laws::{parents_have_a_cycle_or_none, parents_have_one_cycle_at_most};
