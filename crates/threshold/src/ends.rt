@@ -1,6 +1,6 @@
 //! The two diagrams in which the probability is 0 and 1.
 
-ghost use Rattle.std.specs.Prelude.{◌≡◌, ◌<◌, IfErr, IfOk, slice_set, length};
+ghost use Rattle.std.specs.Prelude.{◌≡◌, IfErr, IfOk};
 ghost use Rattle.first_fault.specs.Answers.{IsFaultOrNoMemory, Passes};
 ghost use Rattle.maid_model.specs.Diagrams.{IsDiagram};
 ghost use Rattle.threshold.specs.Ends.{AreEnds, AreTotals, IsEnd, place_pass};
@@ -9,6 +9,7 @@ ghost use Rattle.threshold.specs.Weights.{IsCell, KeepsRange, rewritten_diagram}
 
 use crate::SpanFault;
 use crate::weights::{Place, Scales, new_table, weight_there};
+use diagram_graph::copy_nodes;
 use maid_model::{Diagram, GREATEST_NUMBER, Node};
 use smallvec::SmallVec;
 use std::alloc::{AllocError, Global};
@@ -44,32 +45,6 @@ fn with_cells(alloc: Global, node: &Node, cells: Vec<i128>) -> Result<Node, Allo
     })
 }
 
-/// A copy of the node.
-fn copy_node(alloc: Global, node: &Node) -> Result<Node, AllocError>
-    ensures { IfOk result (λ copy. copy ≡ node.now) }
-{
-    let cells = Vec::from_slice(alloc, node.cells.as_slice())?;
-    with_cells(alloc, node, cells)
-}
-
-/// Copies of all nodes.
-fn copy_nodes(alloc: Global, diagram: &Diagram) -> Result<Vec<Node>, AllocError>
-    ensures { IfOk result (λ nodes. nodes.items ≡ diagram.now.nodes) }
-{
-    let mut nodes = Vec::with_capacity(alloc, diagram.count())?;
-    for v in 0..diagram.count() {
-        nodes.push(copy_node(alloc, diagram.node(v))?)?;
-    }
-    Ok(nodes)
-}
-
-fn put(nodes: &mut Vec<Node>, v: usize, node: Node)
-    requires { v < length nodes.old.items }
-    ensures { nodes.new.items ≡ slice_set nodes.old.items v node }
-{
-    nodes[v] = node;
-}
-
 /// The diagram with the weights of the table written anew.
 fn rewrite(
     alloc: Global,
@@ -86,7 +61,7 @@ fn rewrite(
     let cells = new_table(alloc, diagram, place, scales)?;
     let mut nodes = copy_nodes(alloc, diagram)?;
     let made = with_cells(alloc, diagram.node(place.node), cells)?;
-    put(&mut nodes, place.node, made);
+    nodes[place.node] = made;
     Ok(Diagram::from_nodes(nodes, diagram.agents(), diagram.decimals()))
 }
 
