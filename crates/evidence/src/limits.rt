@@ -1,6 +1,6 @@
 //! The limits that a diagram under evidence must keep to be solved, and its answer.
 
-ghost use Rattle.std.specs.Prelude.{◌≢◌, ◌<◌, ◌≤◌, ◌↔◌, length, IsTrue, IfOk};
+ghost use Rattle.std.specs.Prelude.{◌≢◌, ◌<◌, ◌≤◌, length, IfOk};
 ghost use Rattle.first_fault.specs.Answers.{Passes};
 ghost use Rattle.maid_model.specs.declared.diagrams.Kind.TheVariants.{Utility};
 ghost use Rattle.maid_model.specs.declared.limits.TheConstants.{MOST_PLAN_CELLS};
@@ -9,32 +9,19 @@ ghost use Rattle.maid_model.specs.Diagrams.{IsDiagram};
 ghost use Rattle.maid_model.specs.Nodes.{node_at};
 ghost use Rattle.maid_model.specs.Placing.{IsRelianceOrder};
 ghost use Rattle.relevance_graph.specs.Relevant.{IsRelevance};
-ghost use Rattle.rule_solver.specs.Faults.{KeepsPlanLimits, bound_pass, solve_fault};
+ghost use Rattle.rule_solver.specs.Faults.{solve_fault};
 ghost use Rattle.evidence.specs.Bounds.{KeepsBoundsGiven};
 ghost use Rattle.evidence.specs.Faults.{further_pass, limits_pass, given_size_pass, solving_pass};
 ghost use Rattle.evidence.specs.Plans.{HasFurtherPlans, HasRoomForAll, HasRunPlans};
 ghost use Rattle.evidence.specs.Sizes.{HasSpace};
 
 use crate::measures::{GivenPlans, plan_all};
-use maid_model::{Diagram, MOST_PLAN_CELLS, MOST_WORK, Solved, descent_is_tested};
+use maid_model::{Diagram, Solved, descent_is_tested};
 use relevance_graph::{Relevance, find_relevance};
-use rule_solver::{SolveFault, Workspaces, solve_by};
-use size_precheck::{Size, greedy_orders, sizes_of_plans};
+use rule_solver::{SolveFault, Workspaces, keep_bound, keeps_plan_limits, solve_by};
+use size_precheck::{greedy_orders, sizes_of_plans};
 use std::alloc::Global;
-use weight_scale::{BoundPlace, bound, place_given};
-
-/// Refuses a diagram of which the scope of a decision or of an agent doesn't keep the weight
-/// bound.
-fn keep_bound(diagram: &Diagram) -> Result<(), SolveFault>
-    ensures rows { Passes solve_fault (bound_pass diagram.now) result }
-    ensures diagram { IsDiagram diagram.now }
-{
-    match bound(diagram) {
-        BoundPlace::Within => Ok(()),
-        BoundPlace::Node(v) => Err(SolveFault::WeightBound { node: Some(v) }),
-        BoundPlace::Utilities => Err(SolveFault::WeightBound { node: None }),
-    }
-}
+use weight_scale::{BoundPlace, place_given};
 
 /// Refuses a diagram of which a further scope doesn't keep the weight bound: that of an agent
 /// where the node is given, or the one where there is no agent.
@@ -50,13 +37,6 @@ fn keep_bound_given(diagram: &Diagram, node: usize) -> Result<(), SolveFault>
         }
     }
     Ok(())
-}
-
-/// Whether a size is within both limits.
-fn is_small(size: &Size) -> bool
-    ensures { IsTrue result ↔ KeepsPlanLimits size.now }
-{
-    size.cells <= MOST_PLAN_CELLS as u128 && size.work <= MOST_WORK
 }
 
 /// The plans of the run and the further ones, made once. Refuses what is too large.
@@ -79,7 +59,7 @@ fn keep_sizes(
     greedy_orders();
     descent_is_tested();
     let plans = plan_all(alloc, diagram, order, node)?;
-    if !is_small(&plans.size) {
+    if !keeps_plan_limits(&plans.size) {
         return Err(SolveFault::TooLarge {
             cells: plans.size.cells,
             work: plans.size.work,

@@ -1,16 +1,16 @@
 //! What a diagram must keep to be updated.
 
-ghost use Rattle.std.specs.Prelude.{◌≡◌, ◌↔◌, IsTrue, IfOk};
+ghost use Rattle.std.specs.Prelude.{◌≡◌, IfOk};
 ghost use Rattle.first_fault.specs.Answers.{Passes};
 ghost use Rattle.maid_model.specs.Nodes.{decisions_of};
 ghost use Rattle.maid_model.specs.Scopes.{KeepsScopedBounds};
-ghost use Rattle.rule_solver.specs.Faults.{KeepsPlanLimits};
 ghost use Rattle.policy_update.specs.Faults.{update_bound_pass, owners_pass, update_size_pass, update_fault};
 ghost use Rattle.policy_update.specs.Steps.{IsPlannedRun};
 
 use crate::UpdateFault;
-use maid_model::{Diagram, MOST_PLAN_CELLS, MOST_WORK, descent_is_tested};
-use size_precheck::{RunPlans, Size, greedy_orders, plan_run, sizes_of_plans};
+use maid_model::{Diagram, descent_is_tested};
+use rule_solver::keeps_plan_limits;
+use size_precheck::{RunPlans, greedy_orders, plan_run, sizes_of_plans};
 use std::alloc::Global;
 use weight_scale::{BoundPlace, bound};
 
@@ -39,13 +39,6 @@ pub(crate) fn keep_bound(diagram: &Diagram) -> Result<(), UpdateFault>
     }
 }
 
-/// Whether a size is within both limits.
-fn is_small(size: &Size) -> bool
-    ensures { IsTrue result ↔ KeepsPlanLimits size.now }
-{
-    size.cells <= MOST_PLAN_CELLS as u128 && size.work <= MOST_WORK
-}
-
 /// The plans of the run over the decisions, and its size. Refuses a diagram in which one of the plans needs too many
 /// cells, or all of them together too much work.
 pub(crate) fn keep_sizes(
@@ -61,7 +54,7 @@ pub(crate) fn keep_sizes(
     greedy_orders();
     descent_is_tested();
     let plans = plan_run(alloc, diagram, decisions)?;
-    if !is_small(&plans.size) {
+    if !keeps_plan_limits(&plans.size) {
         return Err(UpdateFault::TooLarge {
             cells: plans.size.cells,
             work: plans.size.work,

@@ -17,8 +17,12 @@ use size_precheck::{RunPlans, Size, greedy_orders, plan_run, plan_run_with, size
 use std::alloc::{AllocError, Global};
 use weight_scale::{BoundPlace, bound};
 
-/// Refuses a diagram that doesn't keep the weight bound.
-pub(crate) fn keep_bound(diagram: &Diagram) -> Result<(), SolveFault>
+/// Refuses a diagram of which the scope of a decision or of an agent doesn't keep the weight bound.
+///
+/// # Errors
+///
+/// The weight bound, at the first place that breaks it.
+pub fn keep_bound(diagram: &Diagram) -> Result<(), SolveFault>
     ensures rows { Passes solve_fault (bound_pass diagram.now) result }
     ensures diagram { IsDiagram diagram.now }
 {
@@ -29,8 +33,8 @@ pub(crate) fn keep_bound(diagram: &Diagram) -> Result<(), SolveFault>
     }
 }
 
-/// Whether a size is within both limits.
-fn is_small(size: &Size) -> bool
+/// Whether a size is within the limits of cells and of work.
+pub fn keeps_plan_limits(size: &Size) -> bool
     ensures { IsTrue result ↔ KeepsPlanLimits size.now }
 {
     size.cells <= MOST_PLAN_CELLS as u128 && size.work <= MOST_WORK
@@ -75,7 +79,7 @@ pub(crate) fn keep_sizes(
     greedy_orders();
     descent_is_tested();
     let plans = plan_by(alloc, diagram, order, kept)?;
-    if !is_small(&plans.size) {
+    if !keeps_plan_limits(&plans.size) {
         return Err(SolveFault::TooLarge {
             cells: plans.size.cells,
             work: plans.size.work,

@@ -6,7 +6,7 @@ use Rattle.evidence.proofs.Measured.{room_for_all, small_given}
 use Rattle.evidence.proofs.limits.keep_sizes.Goals as goal
 
 pub returns-clause-rows : goal.returns-clause-rows
-returns-clause-rows c = small_given c.args.diagram.now c.args.order.now c.args.node c.in_ok-plans.plans.size c.sizes_of_plans.ensures.one c.requires.order c.in_ok-plans.ensures.size (c.is_small.ensures.0 c.if-not-is_small.false)
+returns-clause-rows c = small_given c.args.diagram.now c.args.order.now c.args.node c.in_ok-plans.plans.size c.sizes_of_plans.ensures.one c.requires.order c.in_ok-plans.ensures.size (c.keeps_plan_limits.ensures.0 c.if-not-keeps_plan_limits.false)
 
 pub returns-clause-room : goal.returns-clause-room
 returns-clause-room c =
@@ -36,10 +36,10 @@ returns-in_err-plans-clause-room c = IfOk-from_err _ _ c.from_residual.ensures.0
 pub returns-in_err-plans-clause-limit : goal.returns-in_err-plans-clause-limit
 returns-in_err-plans-clause-limit c = IfOk-from_err _ _ c.from_residual.ensures.0
 
-pub returns-then-not-is_small-clause-rows : goal.returns-then-not-is_small-clause-rows
-returns-then-not-is_small-clause-rows c = (
+pub returns-then-not-keeps_plan_limits-clause-rows : goal.returns-then-not-keeps_plan_limits-clause-rows
+returns-then-not-keeps_plan_limits-clause-rows c = (
   record { order = c.args.order.now; is_order = c.requires.order; is_size = c.in_ok-plans.ensures.size },
-  λ keeps. let small = c.is_small.ensures.1 keeps in cc,
+  λ keeps. let small = c.keeps_plan_limits.ensures.1 keeps in cc,
 )
 
 pub returns-clause-plans : goal.returns-clause-plans
@@ -49,16 +49,16 @@ pub returns-clause-further : goal.returns-clause-further
 returns-clause-further c = c.in_ok-plans.ensures.further
 
 pub returns-clause-limit : goal.returns-clause-limit
-returns-clause-limit c = let small : KeepsPlanLimits c.in_ok-plans.plans.size = c.is_small.ensures.0 c.if-not-is_small.false in small.cells
+returns-clause-limit c = let small : KeepsPlanLimits c.in_ok-plans.plans.size = c.keeps_plan_limits.ensures.0 c.if-not-keeps_plan_limits.false in small.cells
 
-pub returns-then-not-is_small-clause-plans : goal.returns-then-not-is_small-clause-plans
-returns-then-not-is_small-clause-plans c = tt
+pub returns-then-not-keeps_plan_limits-clause-plans : goal.returns-then-not-keeps_plan_limits-clause-plans
+returns-then-not-keeps_plan_limits-clause-plans c = tt
 
-pub returns-then-not-is_small-clause-further : goal.returns-then-not-is_small-clause-further
-returns-then-not-is_small-clause-further c = tt
+pub returns-then-not-keeps_plan_limits-clause-further : goal.returns-then-not-keeps_plan_limits-clause-further
+returns-then-not-keeps_plan_limits-clause-further c = tt
 
-pub returns-then-not-is_small-clause-room : goal.returns-then-not-is_small-clause-room
-returns-then-not-is_small-clause-room c = tt
+pub returns-then-not-keeps_plan_limits-clause-room : goal.returns-then-not-keeps_plan_limits-clause-room
+returns-then-not-keeps_plan_limits-clause-room c = tt
 
-pub returns-then-not-is_small-clause-limit : goal.returns-then-not-is_small-clause-limit
-returns-then-not-is_small-clause-limit c = tt
+pub returns-then-not-keeps_plan_limits-clause-limit : goal.returns-then-not-keeps_plan_limits-clause-limit
+returns-then-not-keeps_plan_limits-clause-limit c = tt

@@ -9,11 +9,11 @@ pub plan_run-requires : goal.plan_run-requires
 plan_run-requires c = subst (ListsDecisions c.args.diagram.now.nodes) (sym c.requires) (lists_decisions c.args.diagram.now.nodes)
 
 pub returns-clause-rows : goal.returns-clause-rows
-returns-clause-rows c = small_enough c.args.diagram.now c.in_ok-plans.plans.size c.sizes_of_plans.ensures.one (subst (λ order. IsSizeOfRun c.args.diagram.now.nodes order c.in_ok-plans.plans.size) c.requires c.in_ok-plans.ensures.size) (c.is_small.ensures.0 c.if-not-is_small.false)
+returns-clause-rows c = small_enough c.args.diagram.now c.in_ok-plans.plans.size c.sizes_of_plans.ensures.one (subst (λ order. IsSizeOfRun c.args.diagram.now.nodes order c.in_ok-plans.plans.size) c.requires c.in_ok-plans.ensures.size) (c.keeps_plan_limits.ensures.0 c.if-not-keeps_plan_limits.false)
 
 pub returns-clause-run : goal.returns-clause-run
 returns-clause-run c =
-    let small : KeepsPlanLimits c.in_ok-plans.plans.size = c.is_small.ensures.0 c.if-not-is_small.false in
+    let small : KeepsPlanLimits c.in_ok-plans.plans.size = c.keeps_plan_limits.ensures.0 c.if-not-keeps_plan_limits.false in
     record {
       plans = subst (λ order. ArePlans c.args.diagram.now.nodes order c.in_ok-plans.plans.decisions.items) c.requires c.in_ok-plans.ensures.plans;
       room = has_room c.args.diagram.now.nodes c.greedy_orders.ensures.one c.in_ok-plans.plans.size c.descent_is_tested.ensures
