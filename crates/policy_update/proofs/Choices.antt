@@ -1,9 +1,8 @@
 -- The choice of a row, improved: the walk over the states, row by row, and gains that compare alike.
-use Rattle.std.proofs.Common.{◌≡◌, ◌∙◌, ◌⊎◌, ◌↔◌, ℕ, ◌+◌, ◌*◌, ◌<◌, ◌≤◌, List, [], ◌∷◌, ◌++◌, All, None, length, length-append, slice_index_or, refl, sym, ap, subst, inl, inr, arith, ℤ, ◌≤ℤ◌, ◌<ℤ◌}
+use Rattle.std.proofs.Common.{◌≡◌, ◌∙◌, ◌⊎◌, ◌↔◌, ℕ, ◌+◌, ◌<◌, ◌≤◌, List, [], ◌∷◌, ◌++◌, All, None, length, length-append, slice_index_or, refl, sym, ap, subst, inl, inr, arith, ℤ, ◌≤ℤ◌, ◌<ℤ◌}
 use Rattle.std.proofs.lemmas.List.{get_or_append_left}
 use Rattle.std.proofs.lemmas.List.Elements.{All-nil, All-push}
 use Rattle.std.proofs.Math.Decide.{ℕ_discrete}
-use Rattle.std.proofs.Math.Nat.{mul-le-mul_left}
 use Rattle.std.proofs.lemmas.Int.{ints}
 use Rattle.maid_model.specs.declared.answers.Row.{Row}
 use Rattle.maid_model.specs.Answers.{no_row}
@@ -116,13 +115,6 @@ best_end gain choice best k n all was within h = record {
     first s l less (inr (more, f)) = f
 
 -- ---- row by row
--- a row ends within the table
-pub row_end : (row rows states : ℕ) → row < rows → row * states + states ≤ rows * states
-row_end row rows states h = let most = mul-le-mul_left states (next h) in omega (arith, most)
-  where
-    next : row < rows → row + 1 ≤ rows
-    next h = omega (arith, h)
-
 -- the first rows, each improved by its own gains, and without worths
 pub record AreImprovedTo (gain : ℕ → ℕ → ℤ) (states : ℕ) (before : List Row) (n : ℕ) (after : List Row) : Type 0 where
   pub count : length after ≡ n

@@ -2,10 +2,10 @@
 
 ghost use Rattle.std.specs.Prelude.{◌≡◌, ◌<◌, ◌*◌, ◌↔◌, All, IfOk, IsTrue, length};
 ghost use Rattle.reach_laws.specs.Updates.{IsImproved};
-ghost use Rattle.rule_solver.specs.Rows.{AreGainsOfRow};
 ghost use Rattle.policy_update.specs.Steps.{AreImprovedBy, AreSameChoices, state_gain};
 
 use maid_model::Row;
+use rule_solver::row_gains;
 use std::alloc::{AllocError, Global};
 
 /// The choice where no state has a greater gain, and else the first state of greatest gain.
@@ -20,17 +20,6 @@ fn improved(gains: &[i128], choice: usize) -> usize
         }
     }
     best
-}
-
-/// The gains of the states in one row.
-fn row_gains(gains: &[i128], rows: usize, states: usize, row: usize) -> &[i128]
-    requires all { length gains.now ≡ rows * states }
-    requires row { row < rows }
-    ensures count { length result.now ≡ states }
-    ensures gains { AreGainsOfRow gains.now states row result.now }
-{
-    let start = row * states;
-    &gains[start..start + states]
 }
 
 /// The rows, each improved: `gains` has a number for each row and state, the state fastest.

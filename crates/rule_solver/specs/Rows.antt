@@ -1,4 +1,5 @@
--- What is answered in a row, whose states have these gains, against its mass. Only private functions cite it.
+-- What is answered in a row, whose states have these gains, against its mass. Of this a public function cites
+-- `AreGainsOfRow` alone.
 use Rattle.std.specs.Prelude.{◌≡◌, ◌<◌, ◌≤◌, ◌*◌, ℕ, ℤ, ◌≤ℤ◌, nat_abs, pos, List, All, length, slice_index, slice_index_or, Some, None, IfSome}
 use Rattle.maid_model.specs.declared.answers.Ratio.{Ratio}
 use Rattle.maid_model.specs.declared.answers.Row.{Row}

@@ -44,6 +44,7 @@ pub use keeping::{KeptDiagram, keep_diagram, kept_diagrams_stand};
 pub use laws::measured_plans_have_room;
 pub use limits::{keep_bound, keeps_plan_limits};
 pub use optima::optimum_with;
+pub use rows::row_gains;
 pub use solving::{solve, solve_by};
 pub use spaces::Workspaces;
 pub use state_sums::sum_at;

@@ -32,7 +32,7 @@ use crate::bases::turn_base;
 use crate::decision_sums::row_gains_by;
 use crate::keeping::{KeptDiagram, find_by};
 use crate::limits::{keep_bound, keep_sizes};
-use crate::rows::first_best;
+use crate::rows::{first_best, row_gains};
 use crate::spaces::Workspaces;
 use crate::totals::list_totals;
 use crate::worths::{Stake, worth};
@@ -55,8 +55,7 @@ fn choice_at(gains: &[i128], rows: usize, states: usize, row: usize) -> usize
     ensures within { result < states }
     ensures best { IsBest (λ s. gain_in gains.now states s row) states result }
 {
-    let start = row * states;
-    first_best(&gains[start..start + states])
+    first_best(row_gains(gains, rows, states, row))
 }
 
 /// The first best state of each row, without what it is worth.

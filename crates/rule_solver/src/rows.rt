@@ -46,14 +46,12 @@ fn answer_row(gains: &[i128], mass: u128, scale: u128) -> Row
     }
 }
 
-/// The gains of the states in one row.
-fn row_gains(gains: &[i128], rows: usize, states: usize, row: usize) -> &[i128]
+/// The gains of the states in one row, where `gains` has a number for each row and state, the state fastest.
+pub fn row_gains(gains: &[i128], rows: usize, states: usize, row: usize) -> &[i128]
     requires all { length gains.now ≡ rows * states }
     requires row { row < rows }
-    requires small { FitNumbers gains.now }
     ensures count { length result.now ≡ states }
     ensures gains { AreGainsOfRow gains.now states row result.now }
-    ensures small { All (λ gain. nat_abs gain ≤ greatest_number) result.now }
 {
     let start = row * states;
     &gains[start..start + states]
