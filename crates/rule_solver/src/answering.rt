@@ -12,10 +12,9 @@ ghost use Rattle.rule_solver.specs.Rooms.{AreReadyForDecision, AreReadyForDecisi
 ghost use Rattle.rule_solver.specs.Answered.{AreAnswersInOrder, AreRowsAgainst};
 
 use crate::bases::turn_base;
-use crate::decision_sums::Setting;
+use crate::decision_sums::row_sums_by;
 use crate::rows::answer_rows;
 use crate::spaces::Workspaces;
-use crate::totals::list_totals;
 use crate::worths::scale;
 use maid_model::{Answer, Diagram, Profile, Row};
 use node_sets::NodeSet;
@@ -23,7 +22,6 @@ use part_laws::{parts_decide, scopes_are_parts};
 use relevance_graph::Relevance;
 use size_precheck::DecisionPlans;
 use std::alloc::{AllocError, Global};
-use weight_scale::decision_scope;
 
 /// What is answered at the decision against the base, by its plans.
 fn answer_decision(
@@ -47,15 +45,7 @@ fn answer_decision(
     scopes_are_parts();
     parts_decide();
     let states = diagram.states(decision);
-    let totals = list_totals(alloc, diagram, base)?;
-    let setting = Setting {
-        diagram,
-        base,
-        decision,
-        totals: &totals,
-        scope: decision_scope(diagram, decision),
-    };
-    let sums = setting.row_sums(alloc, plans, spaces)?;
+    let sums = row_sums_by(alloc, diagram, base, decision, plans, spaces)?;
     answer_rows(alloc, &sums.gains, &sums.masses, states, scale(diagram))
 }
 

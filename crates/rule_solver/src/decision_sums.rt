@@ -9,7 +9,7 @@ ghost use Rattle.part_laws.specs.ScopeLaws.{HasSmallRules};
 ghost use Rattle.size_precheck.specs.Decisions.{AreDecisionPlans};
 ghost use Rattle.rule_solver.specs.Rooms.{AreNeededForPlans, AreReadyForDecision, HasRoomForDecision};
 ghost use Rattle.rule_solver.specs.Settings.{AddsGoalsIn, AreGoalPlansIn, ArePlansIn, AreReadyForDecisionIn, AreReadyForGoal, AreReadyForGoalsIn, AreReadyForRows, AreRowSumsIn, HasGoalsIn, HasMassesIn, HasRoomForGoalsIn, HoldsSetting, IsGoalIn, IsPlannedForGoal, IsPlannedForRows, IsReadyForGoal, IsReadyForRows, KeepsRoomIn, goals_in, lacking_in_goal, lacking_in_rows, total_in};
-ghost use Rattle.rule_solver.specs.Sums.{AreRowSums, AreRowGains};
+ghost use Rattle.rule_solver.specs.Sums.{AreRowSums, AreRowGains, KeepsRoom};
 
 use crate::joint_goals::{add_together, list_goals};
 use crate::numbers::Number;
@@ -252,7 +252,7 @@ impl<'a> Setting<'a> {
     }
 
     /// The gains and the masses.
-    pub(crate) fn row_sums(
+    fn row_sums(
         &self,
         alloc: Global,
         plans: &DecisionPlans,
@@ -311,6 +311,7 @@ pub fn row_sums_by(
     requires planned { AreDecisionPlans diagram.now.nodes decision plans.now }
     requires ready { AreReadyForDecision diagram.now.nodes decision spaces.old }
     ensures sums { IfOk result (AreRowSums diagram.now.nodes profile.now decision) }
+    ensures room { IfOk result (λ sums. KeepsRoom diagram.now.nodes decision sums.gains.items sums.masses.items) }
     ensures again { OnOk result (spaces.new ≡ spaces.old) }
 {
     let totals = list_totals(alloc, diagram, profile)?;
