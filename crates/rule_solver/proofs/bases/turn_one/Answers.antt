@@ -1,4 +1,4 @@
-use Rattle.std.proofs.Common.{◌≡◌, ◌∙◌, map, slice_index, sym, subst, ap, arith, true, false}
+use Rattle.std.proofs.Common.{◌≡◌, ◌∙◌, map, slice_index, sym, subst, ap, arith}
 use Rattle.maid_model.specs.Views.{AnswerView}
 use Rattle.rule_solver.specs.Bases.{Turns}
 use Rattle.rule_solver.proofs.BaseTurns.{decided_at, turns_stay, turns_in, turns_out}

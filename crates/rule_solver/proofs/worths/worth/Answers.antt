@@ -1,4 +1,4 @@
-use Rattle.std.proofs.Common.{rules, FitsSigned, ◌∙◌, ◌*◌, ◌≤◌, sym, subst, refl}
+use Rattle.std.proofs.Common.{FitsSigned, ◌∙◌, ◌*◌, ◌≤◌, sym, subst, refl}
 use Rattle.std.specs.Int.{w128}
 use Rattle.std.proofs.lemmas.Int.{to_z-of_z}
 use Rattle.cell_rings.specs.Rings.{most_size}

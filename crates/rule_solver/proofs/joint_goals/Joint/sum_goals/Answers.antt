@@ -1,5 +1,5 @@
 -- One elimination of the goals, and its last table read.
-use Rattle.std.proofs.Common.{All, ◌≡◌, ◌∙◌, ◌++◌, ◌<◌, ◌≤◌, ℕ, List, length, sym, ap, subst, arith, refl, ◌+◌}
+use Rattle.std.proofs.Common.{All, ◌≡◌, ◌∙◌, ◌++◌, ◌<◌, ◌≤◌, ℕ, List, length, sym, ap, subst, arith, refl}
 use Rattle.std.proofs.lemmas.List.{take_all}
 use Rattle.cell_rings.specs.Kinds.{both_kind}
 use Rattle.cell_rings.specs.Rings.{most_size}
