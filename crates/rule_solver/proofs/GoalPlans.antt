@@ -1,7 +1,6 @@
 -- The kept plans of a decision's goals, place by place.
-use Rattle.std.proofs.Common.{All, ◌+◌, max, ◌≡◌, ◌∙◌, ◌⊎◌, ◌↔◌, inl, inr, ℕ, zero, suc, ◌<◌, ◌≤◌, Bool, true, false, not, ◌&&◌, ◌||◌, filter, Contains, List, [], ◌∷◌, map, length, get_or, slice_index, refl, sym, ap, subst, arith}
+use Rattle.std.proofs.Common.{All, ◌≡◌, ◌∙◌, ◌⊎◌, ◌↔◌, inl, inr, ℕ, zero, suc, ◌<◌, ◌≤◌, Bool, true, false, not, ◌&&◌, ◌||◌, filter, Contains, List, [], ◌∷◌, map, length, get_or, slice_index, refl, sym, ap, subst, arith}
 use Rattle.std.specs.List.{AllZip}
-use Rattle.std.proofs.Math.Decide.{ℕ_discrete}
 use Rattle.std.proofs.lemmas.List.{get_or_default}
 use Rattle.std.proofs.lemmas.List.Elements.{filter_agree}
 use Rattle.std.proofs.lemmas.Slice.Zip.{AllZip-long}
@@ -155,38 +154,3 @@ module _ (nodes : List NodeView) (graph : IsGraph nodes) (d : ℕ) (is : IsDecis
         let plan : SizedPlan = get_or goals k e in
         room.goals (slice_index (goals_of nodes d) k) (goal_at nodes graph d is k inside) plan (goal_plan_at nodes d goals kept.of_goals k plan inside (get_or_default goals k e plan h)).made),
   )
-
--- one plan more
-pub more_cells : (goals items : List SizedPlan) (i most cells both : ℕ) (plan : SizedPlan) → items ≡ goals → i < length items → plan ≡ get_or items i plan → cells ≡ plan.size.cells → both ≡ max most cells
-    → ((k : ℕ) (e : SizedPlan) → k < i → (get_or goals k e).size.cells ≤ most) → (k : ℕ) (e : SizedPlan) → k < i + 1 → (get_or goals k e).size.cells ≤ both
-more_cells goals items i most cells both plan is within at counted greater so k e h = go (ℕ_discrete k i)
-  where
-    here : (get_or goals i e).size.cells ≡ cells
-    here = ap (λ (l : List SizedPlan). (get_or l i e).size.cells) (sym is) ∙ ap (λ (x : SizedPlan). x.size.cells) (get_or_default items i e plan within ∙ sym at) ∙ sym counted
-
-    left : (a b c : ℕ) → c ≡ max a b → a ≤ c
-    left a b c e = omega (arith, e)
-
-    right : (x a b c : ℕ) → x ≡ b → c ≡ max a b → x ≤ c
-    right x a b c f e = omega (arith, f, e)
-
-    chain : (a b c : ℕ) → a ≤ b → b ≤ c → a ≤ c
-    chain a b c f g = omega (arith, f, g)
-
-    less : (k n : ℕ) → k < n + 1 → (k ≡ n → ⊥) → k < n
-    less k n h m = omega (arith, h)
-
-    go : Dec (k ≡ i) → (get_or goals k e).size.cells ≤ both
-    go (yes f) = subst (λ x. (get_or goals x e).size.cells ≤ both) (sym f) (right (get_or goals i e).size.cells most cells both here greater)
-    go (no m) = chain (get_or goals k e).size.cells most both (so k e (less k i h m)) (left most cells both greater)
-
--- and a number that all have at most is not passed
-pub least_cells : (goals items : List SizedPlan) (i most cells both n : ℕ) (plan : SizedPlan) → items ≡ goals → i < length items → plan ≡ get_or items i plan → cells ≡ plan.size.cells → both ≡ max most cells
-    → most ≤ n → All (λ (x : SizedPlan). x.size.cells ≤ n) goals → both ≤ n
-least_cells goals items i most cells both n plan is within at counted greater few all =
-    let there : (get_or goals i plan).size.cells ≤ n = all i plan (subst (λ (l : List SizedPlan). i < length l) is within) in
-    let same : (get_or goals i plan).size.cells ≡ cells = ap (λ (l : List SizedPlan). (get_or l i plan).size.cells) (sym is) ∙ ap (λ (x : SizedPlan). x.size.cells) (sym at) ∙ sym counted in
-    join (get_or goals i plan).size.cells cells most both n there same greater few
-  where
-    join : (x c m b n : ℕ) → x ≤ n → x ≡ c → b ≡ max m c → m ≤ n → b ≤ n
-    join x c m b n h e f g = omega (arith, h, e, f, g)

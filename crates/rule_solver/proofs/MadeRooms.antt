@@ -1,5 +1,6 @@
 -- The room that plans need.
-use Rattle.std.proofs.Common.{◌≡◌, ◌∙◌, ℕ, ◌+◌, ◌<◌, ◌≤◌, max, List, sym, ap, subst, arith}
+use Rattle.std.proofs.Common.{◌≡◌, ◌∙◌, ℕ, ◌+◌, ◌<◌, ◌≤◌, max, All, List, get_or, length, sym, ap, subst, arith}
+use Rattle.std.proofs.lemmas.List.{get_or_default}
 use Rattle.std.proofs.Math.Decide.{ℕ_discrete}
 use Rattle.maid_model.specs.Views.{NodeView}
 use Rattle.plan_sums.specs.Plans.{PlanView, row_plan, gain_plan, worth_plan}
@@ -28,19 +29,33 @@ more_rooms nodes a b h room = record {
   worths = λ u l e. more_room nodes (worth_plan u) a b h (room.worths u l e);
 }
 
+-- ---- the most cells of some plans
 -- one plan more
-pub one_more : (nodes : List NodeView) (plan : ℕ → PlanView) (n most cells both : ℕ) → both ≡ max most cells → ((k : ℕ) → k < n → HasCellsAtMost nodes (plan k) most) → HasCellsAtMost nodes (plan n) cells → (k : ℕ) → k < n + 1 → HasCellsAtMost nodes (plan k) both
-one_more nodes plan n most cells both e before last k h = go (ℕ_discrete k n)
+pub more_cells : (plans : List SizedPlan) (i most cells both : ℕ) (plan : SizedPlan) → i < length plans → plan ≡ get_or plans i plan → cells ≡ plan.size.cells → both ≡ max most cells
+    → ((k : ℕ) (e : SizedPlan) → k < i → (get_or plans k e).size.cells ≤ most) → (k : ℕ) (e : SizedPlan) → k < i + 1 → (get_or plans k e).size.cells ≤ both
+more_cells plans i most cells both plan within at counted greater so k e h = go (ℕ_discrete k i)
   where
-    left : (a b c : ℕ) → c ≡ max a b → a ≤ c
-    left a b c e = omega (arith, e)
+    here : (get_or plans i e).size.cells ≡ cells
+    here = ap (λ (x : SizedPlan). x.size.cells) (get_or_default plans i e plan within ∙ sym at) ∙ sym counted
 
-    right : (a b c : ℕ) → c ≡ max a b → b ≤ c
-    right a b c e = omega (arith, e)
+    left : (x : ℕ) → x ≤ most → x ≤ both
+    left x f = omega (arith, f, greater)
 
-    less : (k n : ℕ) → k < n + 1 → (k ≡ n → ⊥) → k < n
-    less k n h m = omega (arith, h)
+    right : (x : ℕ) → x ≡ cells → x ≤ both
+    right x f = omega (arith, f, greater)
 
-    go : Dec (k ≡ n) → HasCellsAtMost nodes (plan k) both
-    go (yes f) = subst (λ x. HasCellsAtMost nodes (plan x) both) (sym f) (more_room nodes (plan n) cells both (right most cells both e) last)
-    go (no m) = more_room nodes (plan k) most both (left most cells both e) (before k (less k n h m))
+    less : (k ≡ i → ⊥) → k < i
+    less m = omega (arith, h)
+
+    go : Dec (k ≡ i) → (get_or plans k e).size.cells ≤ both
+    go (yes f) = subst (λ x. (get_or plans x e).size.cells ≤ both) (sym f) (right (get_or plans i e).size.cells here)
+    go (no m) = left (get_or plans k e).size.cells (so k e (less m))
+
+-- and a number that all have at most is not passed
+pub least_cells : (plans : List SizedPlan) (i most cells both n : ℕ) (plan : SizedPlan) → i < length plans → plan ≡ get_or plans i plan → cells ≡ plan.size.cells → both ≡ max most cells
+    → most ≤ n → All (λ (x : SizedPlan). x.size.cells ≤ n) plans → both ≤ n
+least_cells plans i most cells both n plan within at counted greater few all =
+    join (get_or plans i plan).size.cells (all i plan within) (ap (λ (x : SizedPlan). x.size.cells) (sym at) ∙ sym counted)
+  where
+    join : (x : ℕ) → x ≤ n → x ≡ cells → both ≤ n
+    join x h e = omega (arith, h, e, greater, few)

@@ -1,5 +1,5 @@
 -- The plan of a utility's worth: its nodes, and its numbers fit.
-use Rattle.std.proofs.Common.{◌≡◌, ◌≢◌, ◌∙◌, ◌↔◌, ◌&&◌, ℕ, zero, suc, ◌+◌, ◌*◌, ◌<◌, ◌≤◌, Bool, true, false, not, cond, filter, List, [], ◌∷◌, ◌++◌, Contains, map, length, get_or, arith, refl, sym, ap, subst, inl}
+use Rattle.std.proofs.Common.{All, ◌≡◌, ◌≢◌, ◌∙◌, ◌↔◌, ◌&&◌, ℕ, zero, suc, ◌+◌, ◌*◌, ◌<◌, ◌≤◌, Bool, true, false, not, cond, filter, List, [], ◌∷◌, ◌++◌, Contains, map, length, get_or, arith, refl, sym, ap, subst, inl, inr}
 use Rattle.std.specs.List.{list_any, AllZip, range_with_len}
 use Rattle.cell_rings.specs.Rings.{most_size}
 use Rattle.eliminate.specs.Results.{plan_total}
@@ -15,6 +15,7 @@ use Rattle.maid_model.specs.Nodes.{Owns, is_utility, is_utility_of, node_at, num
 use Rattle.maid_model.specs.Profiles.{IsProfile}
 use Rattle.maid_model.specs.Scopes.{KeepsScopedBounds, scope_for, utilities_for}
 use Rattle.maid_model.specs.Views.{NodeView, DiagramView, RuleView}
+use Rattle.maid_laws.proofs.Proportions.{kind_of_utility}
 use Rattle.maid_laws.proofs.Rearranged.{number}
 use Rattle.node_sets.specs.declared.sets.NodeSet.{NodeSet}
 use Rattle.node_sets.specs.Sets.{holds, IsIn}
@@ -23,8 +24,11 @@ use Rattle.plan_sums.specs.Plans.{PlanView, in_plan, plan_nodes, worth_plan}
 use Rattle.factor_core.specs.Slots.{nodes_in}
 use Rattle.scope_sums.specs.Laws.{AgentsScopesFitPlans, MissingIsPositive}
 use Rattle.scope_sums.specs.Missing.{missing_in}
-use Rattle.size_precheck.specs.Sizes.{IsPlanned, SizedPlan, ArePlansOfWorths}
+use Rattle.size_precheck.specs.Laws.{OneGreedyOrder}
+use Rattle.size_precheck.specs.Sizes.{IsPlanned, SizedPlan, ArePlansOfWorths, utility_list}
 use Rattle.size_precheck.proofs.Measuring.{filter_more}
+use Rattle.rule_solver.specs.Rooms.{HasRoomForWorths}
+use Rattle.rule_solver.proofs.MadeRooms.{made_room, more_room}
 use Rattle.rule_solver.proofs.PlanLemmas.{worth_fits}
 
 -- ---- the nodes of the plan
@@ -138,6 +142,24 @@ pub worth_place : (nodes : List NodeView) (v : ℕ) (plans : List SizedPlan) (d 
     → (length (filter (λ u. is_utility (node_at nodes u).kind) (range_with_len 0 v)) < length plans) × IsPlanned nodes (worth_plan v) (get_or plans (length (filter (λ u. is_utility (node_at nodes u).kind) (range_with_len 0 v))) d)
 worth_place nodes v plans d l k z =
     passed_at (IsPlanned nodes) (λ u. is_utility (node_at nodes u).kind) (λ u. worth_plan u) 0 v (length nodes) v plans d l (omega arith) (ap is_utility k) z
+
+-- where the kept plans have at most so many cells, each plan has
+pub kept_worths : (nodes : List NodeView) (plans : List SizedPlan) → ArePlansOfWorths nodes plans → OneGreedyOrder → (cells : ℕ) → All (λ (plan : SizedPlan). plan.size.cells ≤ cells) plans → HasRoomForWorths nodes cells
+kept_worths nodes plans kept one cells all u l k made is =
+    let here = worth_place nodes u plans made l k kept in
+    let plan : SizedPlan = get_or plans (length (filter (λ v. is_utility (node_at nodes v).kind) (range_with_len 0 u))) made in
+    more_room nodes (worth_plan u) plan.size.cells cells (all _ made here.0) (made_room nodes (worth_plan u) plan one here.1.made) made is
+
+-- and where each plan has at most so many, the kept ones have
+pub worths_kept : (nodes : List NodeView) (plans : List SizedPlan) → ArePlansOfWorths nodes plans → (n : ℕ) → HasRoomForWorths nodes n → All (λ (plan : SizedPlan). plan.size.cells ≤ n) plans
+worths_kept nodes plans kept n room = go (utility_list nodes) plans kept (λ u m. kind_of_utility (node_at nodes u).kind (among_filter (λ v. is_utility (node_at nodes v).kind) u (numbers_of nodes) m).1)
+  where
+    go : (us : List ℕ) (made : List SizedPlan) → AllZip (IsPlanned nodes) (map (λ u. worth_plan u) us) made → ((u : ℕ) → Among u us → (node_at nodes u).kind ≡ Utility) → All (λ (plan : SizedPlan). plan.size.cells ≤ n) made
+    go [] [] z are k d h = absurd (omega (arith, h))
+    go [] (y ∷ ys) z are k d h = absurd z
+    go (u ∷ us) [] z are k d h = absurd z
+    go (u ∷ us) (y ∷ ys) z are zero d h = room u (z.0.asked.known u refl) (are u (inl refl)) y z.0.made
+    go (u ∷ us) (y ∷ ys) z are (suc k) d h = go us ys z.1 (λ v m. are v (inr m)) k d (omega (arith, h))
 
 long_map : (f : ℕ → PlanView) (xs : List ℕ) → length (map f xs) ≡ length xs
 long_map f [] = refl

@@ -7,7 +7,6 @@ use Rattle.maid_model.specs.Relevance.{IsGoal}
 use Rattle.maid_model.specs.Views.{NodeView}
 use Rattle.plan_sums.specs.Plans.{PlanView, row_plan, gain_plan, worth_plan}
 use Rattle.factor_core.specs.Slots.{WorkspaceView}
-use Rattle.size_precheck.specs.declared.decisions.DecisionPlans.{DecisionPlans}
 use Rattle.size_precheck.specs.Sizes.{SizedPlan, IsMade}
 use Rattle.rule_solver.specs.declared.spaces.TheConstants.{MOST_PAIR_CELLS}
 use Rattle.rule_solver.specs.declared.spaces.Workspaces.{Workspaces}
@@ -35,10 +34,10 @@ pub record HasRoomForRun (nodes : List NodeView) (cells : ℕ) : Type 0 where
   pub decisions : (d : ℕ) → IsDecision nodes d → HasRoomForDecision nodes d cells
   pub worths : HasRoomForWorths nodes cells
 
--- whatever number of cells each of the decision's plans keeps, this one is at most that
-abbrev pub AreNeededForPlans : DecisionPlans → ℕ → Type 0
-AreNeededForPlans plans cells = (n : ℕ) → plans.rows.size.cells ≤ n
-    → All (λ plan. plan.size.cells ≤ n) plans.goals.items → cells ≤ n
+-- these cells are at most every number that is no less than `fewest` and than the cells of each of the plans
+abbrev pub AreNeededForPlans : ℕ → List SizedPlan → ℕ → Type 0
+AreNeededForPlans fewest plans cells =
+    (n : ℕ) → fewest ≤ n → All (λ plan. plan.size.cells ≤ n) plans → cells ≤ n
 
 -- a workspace within the limit has no table and room for so many cells
 pub record IsEmptyWithin {C : Type 0} (cells : ℕ) (work : WorkspaceView C) : Type 0 where

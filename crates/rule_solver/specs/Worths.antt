@@ -17,7 +17,6 @@ use Rattle.plan_sums.specs.Plans.{gain_cells, plan_sum, worth_plan}
 use Rattle.scope_sums.specs.Missing.{missing_in}
 use Rattle.rule_solver.specs.declared.worths.Stake.{Stake}
 use Rattle.rule_solver.specs.Masses.{IsExpected}
-use Rattle.rule_solver.specs.Rooms.{HasRoomForWorths}
 use Rattle.rule_solver.specs.Totals.{HasTotals}
 
 -- the worth is what the utility's plan sums to
@@ -72,15 +71,6 @@ pub record IsStake
 abbrev pub scope_gain_for : List NodeView → List RuleView → ℕ → ℤ
 scope_gain_for nodes p agent =
     gain_of (scope_part_for nodes agent) (rules_in_scope_for nodes p agent) agent
-
--- room for the plans of all utilities' worths takes at least so many cells
-abbrev pub AreNeededForWorths : List NodeView → ℕ → Type 0
-AreNeededForWorths nodes cells = (fewer : ℕ) → HasRoomForWorths nodes fewer → cells ≤ fewer
-
--- so many cells are room for the plans of all utilities' worths, and no fewer are
-pub record IsLeastRoom (nodes : List NodeView) (cells : ℕ) : Type 0 where
-  pub room : HasRoomForWorths nodes cells
-  pub least : AreNeededForWorths nodes cells
 
 -- ---- of a stake as the program has it
 -- what the stake has is right

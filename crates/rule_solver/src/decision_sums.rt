@@ -1,20 +1,20 @@
 //! The gains and masses of one decision, by plans of elimination in the part of its scope.
 
-ghost use Rattle.std.specs.Prelude.{◌≡◌, ◌*◌, ◌≤◌, ◌∷◌, [], All, IfOk, OnOk, length};
+ghost use Rattle.std.specs.Prelude.{◌≡◌, ◌*◌, ◌≤◌, ◌∷◌, [], IfOk, OnOk, length};
 ghost use Rattle.maid_model.specs.declared.limits.TheConstants.{MOST_PLAN_CELLS};
 ghost use Rattle.maid_model.specs.Nodes.{IsDecision, rows_of};
 ghost use Rattle.maid_model.specs.Profiles.{IsProfile};
 ghost use Rattle.maid_model.specs.Scopes.{KeepsScopedBounds};
 ghost use Rattle.part_laws.specs.ScopeLaws.{HasSmallRules};
 ghost use Rattle.size_precheck.specs.Decisions.{AreDecisionPlans};
-ghost use Rattle.rule_solver.specs.Rooms.{AreNeededForPlans, AreReadyForDecision, HasRoomForDecision};
+ghost use Rattle.rule_solver.specs.Rooms.{AreReadyForDecision, HasRoomForDecision};
 ghost use Rattle.rule_solver.specs.Settings.{AddsGoalsIn, AreGoalPlansIn, ArePlansIn, AreReadyForDecisionIn, AreReadyForGoal, AreReadyForGoalsIn, AreReadyForRows, AreRowSumsIn, HasGoalsIn, HasMassesIn, HasRoomForGoalsIn, HoldsSetting, IsGoalIn, IsPlannedForGoal, IsPlannedForRows, IsReadyForGoal, IsReadyForRows, KeepsRoomIn, goals_in, lacking_in_goal, lacking_in_rows, total_in};
 ghost use Rattle.rule_solver.specs.Sums.{AreRowSums, AreRowGains, KeepsRoom};
 
 use crate::joint_goals::{add_together, list_goals};
 use crate::numbers::Number;
 use crate::reading::{LastTable, add_gains, put_masses};
-use crate::spaces::Workspaces;
+use crate::spaces::{Workspaces, most_cells};
 use crate::totals::{list_totals, product_in};
 use crate::widths::fits_small;
 use cell_rings::{Gain, SmallGain};
@@ -272,19 +272,6 @@ impl<'a> Setting<'a> {
     }
 }
 
-/// How many cells the largest of a decision's plans has.
-fn most_cells(plans: &DecisionPlans) -> u128
-    ensures rows { plans.now.rows.size.cells ≤ result }
-    ensures goals { All (λ plan. plan.size.cells ≤ result) plans.now.goals.items }
-    ensures least { AreNeededForPlans plans.now result }
-{
-    let mut most = plans.rows.size().cells;
-    for plan in &plans.goals {
-        most = most.max(plan.size().cells);
-    }
-    most
-}
-
 /// What `row_sums` tells of a decision, by plans that are made already, in workspaces with room for the largest of
 /// them.
 ///
@@ -388,7 +375,7 @@ pub fn row_sums(
     greedy_orders();
     let _count = diagram.count();
     let plans = plan_decision(alloc, diagram, decision)?;
-    let cells = most_cells(&plans) as usize;
+    let cells = most_cells(plans.rows.size().cells, &plans.goals) as usize;
     let mut spaces = Workspaces::reserve(alloc, cells)?;
     row_sums_by(alloc, diagram, profile, decision, &plans, &mut spaces)
 }

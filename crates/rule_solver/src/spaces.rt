@@ -1,11 +1,12 @@
 //! The room in which plans run.
 
-ghost use Rattle.std.specs.Prelude.{◌≤◌, IfOk};
+ghost use Rattle.std.specs.Prelude.{◌≤◌, All, IfOk};
 ghost use Rattle.maid_model.specs.declared.limits.TheConstants.{MOST_PLAN_CELLS};
-ghost use Rattle.rule_solver.specs.Rooms.{AreLeft, AreReady, AreThoseLeft};
+ghost use Rattle.rule_solver.specs.Rooms.{AreLeft, AreNeededForPlans, AreReady, AreThoseLeft};
 
 use cell_rings::{Both, Gain, SmallGain};
 use factor_core::Workspace;
+use size_precheck::Plan;
 use std::alloc::{AllocError, Global};
 
 /// How many cells the workspace of pairs has room for at most. Goals whose joint sum asks for more are summed one by
@@ -62,4 +63,17 @@ impl Workspaces {
         }
         Workspaces::reserve(alloc, cells)
     }
+}
+
+/// How many cells the largest of the plans has, and no fewer than `fewest`.
+pub(crate) fn most_cells(fewest: u128, plans: &[Plan]) -> u128
+    ensures fewest { fewest ≤ result }
+    ensures plans { All (λ plan. plan.size.cells ≤ result) plans.now }
+    ensures least { AreNeededForPlans fewest plans.now result }
+{
+    let mut most = fewest;
+    for plan in plans {
+        most = most.max(plan.size().cells);
+    }
+    most
 }

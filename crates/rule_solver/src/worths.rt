@@ -12,13 +12,13 @@ ghost use Rattle.part_laws.specs.ScopeLaws.{HasUnitRules};
 ghost use Rattle.plan_sums.specs.Plans.{worth_plan};
 ghost use Rattle.size_precheck.specs.Sizes.{IsPlanned, ArePlansOfWorths};
 ghost use Rattle.rule_solver.specs.Masses.{HasGains};
-ghost use Rattle.rule_solver.specs.Rooms.{AreBothReadyForWorths, AreReadyFor, AreReadyForWorths, HasRoomForWorth, HasRoomForWorths, IsReadyFor};
+ghost use Rattle.rule_solver.specs.Rooms.{AreBothReadyForWorths, AreReadyFor, AreReadyForWorths, HasRoomForWorths, IsReadyFor};
 ghost use Rattle.rule_solver.specs.Totals.{HasTotals};
-ghost use Rattle.rule_solver.specs.Worths.{AreNeededForWorths, HasWorths, HoldsStake, IsExpectedTo, IsLeastRoom, IsWorth, gain_to, share_of};
+ghost use Rattle.rule_solver.specs.Worths.{HasWorths, HoldsStake, IsExpectedTo, IsWorth, gain_to, share_of};
 
 use crate::fractions::fraction;
 use crate::numbers::Number;
-use crate::spaces::Workspaces;
+use crate::spaces::{Workspaces, most_cells};
 use crate::totals::{list_totals, product_in};
 use crate::widths::fits_small;
 use cell_rings::{Gain, SmallGain};
@@ -28,7 +28,7 @@ use maid_model::{Diagram, Kind, Profile, Ratio, descent_is_tested};
 use node_sets::{NodeSet, ancestors};
 use part_laws::{parts_decide, scopes_are_parts};
 use scope_sums::{plans_keep_scopes, plans_sum_scopes};
-use size_precheck::{Plan, greedy_orders, plan_worth, plan_worths};
+use size_precheck::{Plan, greedy_orders, plan_worths};
 use std::alloc::{AllocError, Global};
 use weight_scale::agent_scope;
 
@@ -262,44 +262,15 @@ pub fn expected_by(
     expected_along(alloc, diagram, profile, &plans, spaces)
 }
 
-/// How many cells the plan of a utility's worth has, and 0 at another node.
-fn worth_cells(alloc: Global, diagram: &Diagram, v: usize) -> Result<usize, AllocError>
-    requires within { v < length diagram.now.nodes }
-    requires room { HasRoomForWorths diagram.now.nodes MOST_PLAN_CELLS }
-    ensures room { IfOk result (HasRoomForWorth diagram.now.nodes v) }
-    ensures least { IfOk result (AreNeededForWorths diagram.now.nodes) }
-{
-    greedy_orders();
-    match diagram.kind(v) {
-        Kind::Utility => {
-            let plan = plan_worth(alloc, diagram, v)?;
-            Ok(plan.size().cells as usize)
-        }
-        Kind::Chance | Kind::Decision => Ok(0),
-    }
-}
-
-/// How many cells the largest of the plans of the utilities' worths has.
-fn most_worth_cells(alloc: Global, diagram: &Diagram) -> Result<usize, AllocError>
-    requires { HasRoomForWorths diagram.now.nodes MOST_PLAN_CELLS }
-    ensures { IfOk result (IsLeastRoom diagram.now.nodes) }
-{
-    let mut most = 0;
-    for v in 0..diagram.count() {
-        most = worth_cells(alloc, diagram, v)?.max(most);
-    }
-    Ok(most)
-}
-
 /// What the profile, whose rules are pure, is worth to each agent: a reduced fraction for each, in the agents' order.
 ///
 /// A utility's plan sums it with the tables and rules of its ancestors alone, by variable elimination. An agent's gain is
 /// what its utilities' plans give, each times the totals of those nodes of the agent's scope that the plan lacks; its
 /// expected utility is the gain over the product of the scope's totals and ten to the power of the decimals.
 ///
-/// It makes each utility's plan twice, once for its size and once to run it, and reserves two workspaces, of small and
-/// of wide cells, of as many cells as the largest of them has. It may be asked where each scope keeps the weight bound,
-/// and where no such plan has more than 4,194,304 cells.
+/// It makes each utility's plan once, and reserves the three `Workspaces`, with room for the largest of these plans, of
+/// which it runs all in those of small and of wide cells. It may be asked where each scope keeps the weight bound, and
+/// where no such plan has more than 4,194,304 cells.
 ///
 /// # Errors
 ///
@@ -315,7 +286,10 @@ pub fn expected(
     requires room { HasRoomForWorths diagram.now.nodes MOST_PLAN_CELLS }
     ensures gains { IfOk result (λ v. HasGains diagram.now profile.now diagram.now.agents v.items) }
 {
-    let cells = most_worth_cells(alloc, diagram)?;
+    // A plan that is made again has as many cells.
+    greedy_orders();
+    let plans = plan_worths(alloc, diagram)?;
+    let cells = most_cells(0, &plans) as usize;
     let mut spaces = Workspaces::reserve(alloc, cells)?;
-    expected_by(alloc, diagram, profile, &mut spaces)
+    expected_along(alloc, diagram, profile, &plans, &mut spaces)
 }
