@@ -50,7 +50,8 @@ pub fn gain_by(
     plan_by(alloc, diagram, planner, &keep, Some(decision), Some(goal))
 }
 
-/// The plan of a utility's worth, by what is known of the diagram.
+/// The plan of a utility's worth, by what is known of the diagram: nothing is kept. What it sums to is the utility's
+/// part of an expected utility.
 pub fn worth_by(
     alloc: Global,
     diagram: &Diagram,
@@ -65,15 +66,4 @@ pub fn worth_by(
 {
     let _count = diagram.count();
     plan_by(alloc, diagram, planner, &[], None, Some(utility))
-}
-
-/// The plan of a utility's worth: nothing is kept. What it sums to is the utility's part of an expected utility.
-pub fn plan_worth(alloc: Global, diagram: &Diagram, utility: usize) -> Result<Plan, AllocError>
-    requires within { utility < length diagram.now.nodes }
-    requires kind { (node_at diagram.now.nodes utility).kind ≡ Utility }
-    ensures asked { OnOk result (CanBePlanned diagram.now.nodes (worth_plan utility)) }
-    ensures made { IfOk result (IsMade diagram.now.nodes (worth_plan utility)) }
-{
-    let planner = Planner::new(alloc, diagram)?;
-    worth_by(alloc, diagram, &planner, utility)
 }
