@@ -3,8 +3,8 @@
 
 usage: gate.py [TOP [CRATE..]]
 
-The gate (`rt ci`) runs at TOP, or where this script stands; where crates are named, only they and those
-below them are tried, so that it may be timed in parts. While it runs, the processor times of all checks
+The gate (`rt ci`) runs at TOP, or where this script stands; where crates are named, it runs over a copy of
+them and of those below them alone, so that it may be timed in parts. While it runs, the processor times of all checks
 are read twice a second, and each counts for its crate as proof, as tests or as must-fail edits; what a
 check does in its last half second is lost. The gate's own lines go to standard output, and behind them a
 table in minutes of processor time, the most expensive crate first, and the seconds of the most expensive
@@ -12,8 +12,11 @@ edits. The status is the gate's.
 """
 
 import os
+import re
+import shutil
 import subprocess
 import sys
+import tempfile
 import threading
 import time
 
@@ -151,17 +154,44 @@ def print_row(name, parts):
     print(f"| {name} | " + " | ".join(f"{number:.1f}" for number in numbers) + " |")
 
 
-def main():
-    top = sys.argv[1] if len(sys.argv) > 1 else os.path.join(os.path.dirname(__file__), "..")
+def copy_part(top, names, room):
+    """Copies the crates of these names, and those below them, as a checkout of their own."""
+    with open(os.path.join(top, "crates.txt"), encoding="utf-8") as lines:
+        listed = dict(re.findall(r"(?m)^(\w+)([^#\n]*)", lines.read()))
+    needed, waiting = [], list(names)
+    while waiting:
+        name = waiting.pop()
+        if name not in needed:
+            needed.append(name)
+            waiting += [below for below in listed[name].partition(":")[2].split() if below in listed]
+    shutil.copy(os.path.join(top, "HANDLES"), room)
+    with open(os.path.join(room, "crates.txt"), "w", encoding="utf-8") as part:
+        part.writelines(f"{name}{listed[name]}\n" for name in needed)
+    for name in needed:
+        folder = os.path.join("crates", name)
+        shutil.copytree(os.path.join(top, folder), os.path.join(room, folder), ignore=shutil.ignore_patterns("out"))
+
+
+def run_gate(top):
+    """Runs the gate at the folder, prints where its time went, and gives its status."""
     found, edits = {}, {}
-    gate = subprocess.Popen(["rt", "ci", *sys.argv[2:]], cwd=top)
+    gate = subprocess.Popen(["rt", "ci"], cwd=top)
     watch = threading.Thread(target=sample, args=(gate, top, found, edits))
     watch.start()
     status = gate.wait()
     watch.join()
     print_table(found)
     print_edits(found, edits)
-    sys.exit(status)
+    return status
+
+
+def main():
+    top = sys.argv[1] if len(sys.argv) > 1 else os.path.join(os.path.dirname(__file__), "..")
+    if len(sys.argv) < 3:
+        sys.exit(run_gate(top))
+    with tempfile.TemporaryDirectory(prefix="gate-") as room:
+        copy_part(top, sys.argv[2:], room)
+        sys.exit(run_gate(room))
 
 
 main()

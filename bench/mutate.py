@@ -1,19 +1,20 @@
 #!/usr/bin/env python3
 """Runs each form of words on mutated diagrams and reports, and looks how the runs end.
 
-    bench/mutate.py PROGRAM [--seed N] [--runs N] [--keep FOLDER]
+    bench/mutate.py PROGRAM [--seed N] [--runs N] [--keep FOLDER] [--beside OTHER]
 
-The texts are those of examples/, of bench/more_rows.json, and the reports that the program itself writes
-of them. One to four mutations change a text: bytes are flipped, cut or doubled, blocks exchanged, numbers
+The texts are those of examples/, of bench/more_rows.json, random small diagrams, and the reports that the
+program itself writes of them. One to four mutations change a text: bytes are flipped, cut or doubled, blocks exchanged, numbers
 made huge, brackets nested, names exchanged, lines removed. Where `print` takes the text, every form runs
 on it, and `check` on its own report, which must be accepted, and on a mutated one. Where `print` refuses
 it, two further forms must refuse it with the same line.
 
 A fault is a run that ends by a signal, takes more than five seconds of the processor (or five minutes on
 the clock, which much else on the machine makes long), ends with a status that the form has not, or whose
-standard output or standard error is not as the status asks: see STATUSES and LINES. Its files, words and
-end are kept in a folder, which is named. The script ends with 1 where there was a fault. The same seed and
-program give the same runs.
+standard output or standard error is not as the status asks: see STATUSES and LINES; with OTHER, another
+program of this surface, also one that the other ends in another way, by a byte or by the status. Its
+files, words and end are kept in a folder, which is named. The script ends with 1 where there was a fault.
+The same seed and program give the same runs.
 
 It needs Python 3.9 or later, and the program.
 """
@@ -32,6 +33,7 @@ import tempfile
 # No folder of compiled modules is to stand in bench/.
 sys.dont_write_bytecode = True
 
+from drawn import drawn
 from mutations import DIAGRAMS, NAME, REPORTS, STRING, mutated
 
 BENCH = pathlib.Path(__file__).resolve().parent
@@ -121,8 +123,8 @@ def row_texts():
 class Runner:
     """Runs the program on files in a folder, counts how runs end, and keeps those with a fault."""
 
-    def __init__(self, program, folder, keep):
-        self.program, self.folder, self.keep = program, folder, keep
+    def __init__(self, program, other, folder, keep):
+        self.program, self.other, self.folder, self.keep = program, other, folder, keep
         self.runs, self.faults = 0, 0
         self.ends = collections.Counter()
         self.slowest = (0.0, "")
@@ -130,27 +132,33 @@ class Runner:
     def write(self, name, text):
         (self.folder / name).write_bytes(text)
 
-    def run(self, form, *words):
-        """Runs a form and looks at its end: the status, and the two texts."""
-        before = resource.getrusage(resource.RUSAGE_CHILDREN)
+    def end_of(self, program, words):
+        """How a program ends on these words: the status, and the two texts."""
         try:
             done = subprocess.run(
-                [*self.program, form, *words],
+                [*program, *words],
                 cwd=self.folder,
                 env={},
                 stdin=subprocess.DEVNULL,
                 capture_output=True,
                 timeout=CLOCK_LIMIT,
             )
-            end = (done.returncode, done.stdout, done.stderr)
+            return done.returncode, done.stdout, done.stderr
         except subprocess.TimeoutExpired:
-            end = (None, b"", b"")
+            return None, b"", b""
+
+    def run(self, form, *words):
+        """Runs a form, looks at its end, and gives it."""
+        before = resource.getrusage(resource.RUSAGE_CHILDREN)
+        end = self.end_of(self.program, [form, *words])
         after = resource.getrusage(resource.RUSAGE_CHILDREN)
         seconds = after.ru_utime + after.ru_stime - before.ru_utime - before.ru_stime
         self.runs += 1
         self.ends[form, end[0]] += 1
         self.slowest = max(self.slowest, (seconds, " ".join([form, *map(printable, words)])))
         cause = fault_of(form, words, end, seconds)
+        if not cause and self.other and self.end_of(self.other, [form, *words]) != end:
+            cause = "the other program ends in another way"
         if cause:
             self.fault(cause, form, words, end)
         return end
@@ -285,6 +293,11 @@ def try_demo(runner, chance):
     runner.run("demo", stages)
 
 
+def command(words):
+    """The words that start a program, whose own is its path; none where there are none."""
+    return [str(pathlib.Path(word).resolve()) if i == 0 else word for i, word in enumerate(words.split())]
+
+
 def report_ends(runner):
     """Prints how many runs of each form ended with each status."""
     for form in STATUSES:
@@ -301,20 +314,22 @@ def main():
     parser.add_argument("--seed", type=int, default=1, help="another seed gives other texts")
     parser.add_argument("--runs", type=int, default=20_000, help="how many runs there are at the least")
     parser.add_argument("--keep", help="a new folder for the inputs that fail")
+    parser.add_argument("--beside", metavar="OTHER", default="", help="another program, and words before the form")
     asked = parser.parse_args()
     if asked.keep and pathlib.Path(asked.keep).exists():
         parser.error(f"{asked.keep} is there already")
-    first, *before = asked.program.split()
     chance = random.Random(asked.seed)
     keep = pathlib.Path(asked.keep or tempfile.mkdtemp(prefix="mutated-"))
     texts, reports = row_texts()
     examples = [path.read_bytes() for path in sorted(EXAMPLES.glob("*.net"))]
     with tempfile.TemporaryDirectory() as scratch:
-        runner = Runner([str(pathlib.Path(first).resolve()), *before], pathlib.Path(scratch), keep)
+        runner = Runner(command(asked.program), command(asked.beside), pathlib.Path(scratch), keep)
         count = 0
         while runner.runs < asked.runs:
-            text = chance.choice(chance.choice([examples, examples, texts]))
-            text = mutated(chance, text, examples + texts, DIAGRAMS)
+            text = drawn(chance)
+            if chance.random() < 0.6:
+                text = chance.choice(chance.choice([examples, examples, texts]))
+                text = mutated(chance, text, examples + texts, DIAGRAMS)
             try_text(runner, chance, text, reports)
             count += 1
             if count % 20 == 0:

@@ -3,10 +3,9 @@
 
 usage: build.py TOP
 
-Each crate below the program is proved once those that it stands on are. The toolchain proves a crate on all processors
-and has those wait for each other that share one below, so that starting several at a time fills the gaps. What an
-earlier run proved is kept by the toolchain in crates/*/out, so that only what changed is proved again. The status is 0
-where the program stands, else 1 after one line that says what failed and where the log is.
+The toolchain proves the program and the crates below it, as many side by side as there are processors, each once those
+that it stands on are. What an earlier run proved is kept in crates/*/out, so that only what changed is proved again. The
+status is 0 where the program stands, else 1 after one line that says what failed and where the log is.
 """
 import os
 import re
@@ -23,20 +22,15 @@ def say(text):
 
 
 def crates_below(top):
-    """The crates that the program stands on and the program itself, each with those of the repository that it names."""
-    listed = {}
+    """The names of the crates that the program stands on, and its own."""
     with open(os.path.join(top, "crates.txt")) as lines:
-        for line in lines:
-            found = re.match(r"(\w+)[^:#]*:([^#]*)", line)
-            if found:
-                listed[found.group(1)] = found.group(2).split()
-    needed, waiting = {}, [PROGRAM]
+        listed = {name: below.split() for name, below in re.findall(r"(?m)^(\w+)[^:#\n]*:([^#\n]*)", lines.read())}
+    needed, waiting = set(), [PROGRAM]
     while waiting:
         name = waiting.pop()
-        if name in needed:
-            continue
-        needed[name] = [it for it in listed[name] if it in listed]
-        waiting += needed[name]
+        if name in listed and name not in needed:
+            needed.add(name)
+            waiting += listed[name]
     return needed
 
 
@@ -44,58 +38,49 @@ def time_text(seconds):
     return f"{int(seconds) // 60} min {int(seconds) % 60:02} s"
 
 
-def start(top, name):
-    """Begins to prove a crate, and answers its process and its log."""
-    folder = os.path.join(top, "crates", name)
-    os.makedirs(os.path.join(folder, "out"), exist_ok=True)
-    log = os.path.join(folder, "out", "build.log")
-    # With no words the program only prints its usage line, so its own status says nothing.
-    words = ["rt", "run" if name == PROGRAM else "lib"]
-    with open(log, "wb") as out:
-        return subprocess.Popen(words, cwd=folder, stdin=subprocess.DEVNULL, stdout=out, stderr=out), log
-
-
-def has_failed(top, name, status):
-    if name != PROGRAM:
-        return status != 0
-    return not os.access(os.path.join(top, "crates", PROGRAM, "out", PROGRAM), os.X_OK)
+def prove(folder, log, names, workers):
+    """Proves the crates of these names, and tells of each when it is done; gives those that are not proved."""
+    began, done, failed = time.time(), set(), []
+    words = ["rt", "all", "check", "--jobs", str(workers)]
+    how = {"stdin": subprocess.DEVNULL, "stdout": subprocess.PIPE, "stderr": subprocess.STDOUT, "text": True}
+    with subprocess.Popen(words, cwd=folder, errors="replace", **how) as process:
+        for line in process.stdout:
+            log.write(line)
+            begun, ended = re.match(r"== (\w+)$", line), re.match(r"(\w+): (ok|failed|not run)\b", line)
+            if begun and begun[1] in names - done:
+                done.add(begun[1])
+                say(f"{len(done):2} of {len(names)} {begun[1]} ({time_text(time.time() - began)})")
+            elif ended and ended[1] in names and ended[2] == "failed":
+                failed.append(ended[1])
+    return failed or ([PROGRAM] if process.returncode else [])
 
 
 def build(top):
-    needed = crates_below(top)
-    workers = os.cpu_count() or 1
-    began, done, running = time.time(), set(), {}
-    say(f"proving and building {len(needed)} crates on {workers} processors; from nothing that takes some minutes")
-    while len(done) < len(needed):
-        for name in needed:
-            if len(running) < workers and name not in running and name not in done and done.issuperset(needed[name]):
-                running[name] = start(top, name)
-        time.sleep(0.2)
-        for name, (process, log) in list(running.items()):
-            status = process.poll()
-            if status is None:
-                continue
-            del running[name]
-            if has_failed(top, name, status):
-                for other, _ in running.values():
-                    other.terminate()
-                say(f"the crate {name} could not be proved and built; its log is {log}")
-                return 1
-            done.add(name)
-            say(f"{len(done):2} of {len(needed)} {name} ({time_text(time.time() - began)})")
-    return 0
+    folder, workers = os.path.join(top, "crates", PROGRAM), os.cpu_count() or 1
+    out, names = os.path.join(folder, "out"), crates_below(top)
+    program = os.path.join(out, PROGRAM)
+    os.makedirs(out, exist_ok=True)
+    if os.path.exists(program):
+        os.remove(program)
+    say(f"proving and building {len(names)} crates on {workers} processors; from nothing that takes some minutes")
+    with open(os.path.join(out, "build.log"), "w") as log:
+        failed = prove(folder, log, names, workers)
+        log.flush()
+        if not failed:
+            # With no words the program only prints its usage line, so its own status says nothing.
+            subprocess.run(["rt", "run"], cwd=folder, stdin=subprocess.DEVNULL, stdout=log, stderr=log, check=False)
+            failed = [] if os.access(program, os.X_OK) else [PROGRAM]
+    if failed:
+        say(f"the crate {failed[0]} could not be proved and built; the log is {log.name}")
+    return 1 if failed else 0
 
 
 def main():
-    top = sys.argv[1]
     if shutil.which("rt") is None:
         say("there is no fresh program, and rt, which proves and builds it, is not on the path")
         return 1
-    program = os.path.join(top, "crates", PROGRAM, "out", PROGRAM)
     try:
-        if os.path.exists(program):
-            os.remove(program)
-        return build(top)
+        return build(sys.argv[1])
     except OSError as error:
         say(f"there is no fresh program, and none can be built here: {error}")
         return 1
