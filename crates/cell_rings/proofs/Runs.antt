@@ -5,7 +5,7 @@ use Rattle.std.proofs.lemmas.Bool.Decides.{nat_tests}
 use Rattle.std.proofs.lemmas.Bool.{cases_eq}
 use Rattle.cell_rings.specs.Rings.{Ring, IsRing, IsSize, mass_ring}
 use Rattle.cell_rings.specs.Sums.{cell_at, run_sum, AddsCells, HasRoom}
-use Rattle.cell_rings.proofs.Adding.{adds_none, adds_then, room_for_next}
+use Rattle.cell_rings.proofs.Adding.{adds_then, room_for_next}
 
 -- a choice at a place that is the one, or another
 pub chosen : {C : Type 0} (p k : ℕ) (x y : C) → p ≡ k → cond (p == k) x y ≡ x
@@ -13,6 +13,10 @@ chosen p k x y e = grind (arith, nat_tests)
 
 pub not_chosen : {C : Type 0} (p k : ℕ) (x y : C) → (p ≡ k → ⊥) → cond (p == k) x y ≡ y
 not_chosen p k x y e = grind (arith, nat_tests)
+
+-- a sum of what two cells are
+pub sum_is : {C : Type 0} (r : Ring C) {s a b x y : C} → s ≡ r.plus a b → a ≡ x → b ≡ y → s ≡ r.plus x y
+sum_is r e f g = cc
 
 module _ {C : Type 0} {r : Ring C} (laws : IsRing r) (sizes : IsSize r r.size) where
   -- a cell written with c added to it
@@ -31,25 +35,22 @@ module _ {C : Type 0} {r : Ring C} (laws : IsRing r) (sizes : IsSize r r.size) w
         ];
   }
 
-  module _ (n at : ℕ) (f : ℕ → C) (g : ℕ → ℕ) (le : (i : ℕ) → r.size (f i) ≤ g i) (xs : List C) (room : HasRoom r xs (run_sum mass_ring n at g)) where
-    size_if : (b : Bool) (i : ℕ) → r.size (cond b (f i) r.nought) ≤ cond b (g i) 0
-    size_if true i = le i
-    size_if false i = omega (arith, sizes.nought)
+  -- a cell that is left out where a test fails
+  pub size_if : (b : Bool) (x : C) (n : ℕ) → r.size x ≤ n → r.size (cond b x r.nought) ≤ cond b n 0
+  size_if true x n h = h
+  size_if false x n h = omega (arith, sizes.nought)
 
-    -- room for the next cell of the run
-    pub run_room : (i : ℕ) (now : List C) → i < n → AddsCells r (run_sum r i at f) xs now → r.size (cell_at r now (at + i)) + g i ≤ r.most
-    run_room i now h adds =
-        let next : HasRoom r now (λ p. cond (p == at + i) (g i) 0) = room_for_next laws sizes n i (λ i p. cond (p == at + i) (f i) r.nought) (λ i p. cond (p == at + i) (g i) 0) xs now h (λ i p. size_if (p == at + i) i) room adds in
-        omega (arith, next.each (at + i), chosen (at + i) (at + i) (g i) 0 refl)
+  -- room for the next cell of the run
+  pub run_room : (n at : ℕ) (f : ℕ → C) (g : ℕ → ℕ) → ((i : ℕ) → r.size (f i) ≤ g i) → {xs now : List C} → HasRoom r xs (run_sum mass_ring n at g) → (i : ℕ) → i < n → AddsCells r (run_sum r i at f) xs now → r.size (cell_at r now (at + i)) + g i ≤ r.most
+  run_room n at f g le {xs} {now} room i h adds =
+      let next : HasRoom r now (λ p. cond (p == at + i) (g i) 0) = room_for_next laws sizes n i (λ i p. cond (p == at + i) (f i) r.nought) (λ i p. cond (p == at + i) (g i) 0) xs now h (λ i p. size_if (p == at + i) (f i) (g i) (le i)) room adds in
+      omega (arith, next.each (at + i), chosen (at + i) (at + i) (g i) 0 refl)
 
-    -- the next cell of the run
-    pub run_step : (i : ℕ) (now : List C) (y : C) → at + i < length now → y ≡ r.plus (cell_at r now (at + i)) (f i) → AddsCells r (run_sum r i at f) xs now → AddsCells r (run_sum r (i + 1) at f) xs (set now (at + i) y)
-    run_step i now y h e adds =
-        let both = adds_then laws sizes (run_sum r i at f) (λ p. cond (p == at + i) (f i) r.nought) xs now (set now (at + i) y) adds (put_adds now (at + i) y (f i) h e) in
-        subst (λ k. AddsCells r (run_sum r k at f) xs (set now (at + i) y)) (let one : suc i ≡ i + 1 = omega arith in one) both
-
-    pub run_begun : AddsCells r (run_sum r 0 at f) xs xs
-    run_begun = adds_none laws sizes xs
+  -- the next cell of the run
+  pub run_step : (at : ℕ) (f : ℕ → C) (i : ℕ) → {xs now : List C} {y : C} → at + i < length now → y ≡ r.plus (cell_at r now (at + i)) (f i) → AddsCells r (run_sum r i at f) xs now → AddsCells r (run_sum r (i + 1) at f) xs (set now (at + i) y)
+  run_step at f i {xs} {now} {y} h e adds =
+      let both = adds_then laws sizes (run_sum r i at f) (λ p. cond (p == at + i) (f i) r.nought) xs now (set now (at + i) y) adds (put_adds now (at + i) y (f i) h e) in
+      subst (λ k. AddsCells r (run_sum r k at f) xs (set now (at + i) y)) (let one : suc i ≡ i + 1 = omega arith in one) both
 
   -- two products added fit where their sizes do
   pub two_le : (a b x y : C) → r.size (r.plus (r.times a x) (r.times b y)) ≤ r.size a * r.size x + r.size b * r.size y

@@ -5,7 +5,7 @@ use Rattle.cell_rings.specs.RingLaws.{mass_is_ring, mass_sized}
 use Rattle.cell_rings.specs.Sums.{ring_sum, cell_at, run_sum, two_scaled, two_sizes, four_scaled, four_sizes, AddsCells, HasRoom}
 use Rattle.cell_rings.specs.declared.pairs.Pair.{Pair}
 use Rattle.cell_rings.proofs.Adding.{nat_sum_le, size_sum, adds_then}
-use Rattle.cell_rings.proofs.Runs.{two_le}
+use Rattle.cell_rings.proofs.Runs.{size_if, two_le}
 
 pub ring_sum_cong : {C : Type 0} (r : Ring C) (n : ℕ) (f g : ℕ → C) → ((i : ℕ) → f i ≡ g i) → ring_sum r n f ≡ ring_sum r n g
 ring_sum_cong r zero f g h = refl
@@ -36,15 +36,11 @@ module _ {C : Type 0} {r : Ring C} (laws : IsRing r) (sizes : IsSize r r.size) w
       ∙ sum_plus n (λ i. cond (p == at + i) (f i) r.nought) (λ i. cond (p == at + i) (g i) r.nought)
 
 module _ {C : Type 0} {r : Ring C} (laws : IsRing r) (sizes : IsSize r r.size) where
-  size_if : (b : Bool) (x : C) (n : ℕ) → r.size x ≤ n → r.size (cond b x r.nought) ≤ cond b n 0
-  size_if true x n h = h
-  size_if false x n h = omega (arith, sizes.nought)
-
   -- a run's sum is no larger than the sizes of its parts
   pub run_size : (n at p : ℕ) (f : ℕ → C) (g : ℕ → ℕ) → ((i : ℕ) → r.size (f i) ≤ g i) → r.size (run_sum r n at f p) ≤ run_sum mass_ring n at g p
   run_size n at p f g le =
       let parts = size_sum laws sizes n (λ i. cond (p == at + i) (f i) r.nought) in
-      let each = nat_sum_le n (λ i. r.size (cond (p == at + i) (f i) r.nought)) (λ i. cond (p == at + i) (g i) 0) (λ i l. size_if (p == at + i) (f i) (g i) (le i)) in
+      let each = nat_sum_le n (λ i. r.size (cond (p == at + i) (f i) r.nought)) (λ i. cond (p == at + i) (g i) 0) (λ i l. size_if laws sizes (p == at + i) (f i) (g i) (le i)) in
       omega (arith, parts, each)
 
   module _ (n at : ℕ) (f k : ℕ → C) (g h : ℕ → ℕ) (le : (i : ℕ) → r.size (f i) ≤ g i) (xs : List C) (room : HasRoom r xs (run_sum mass_ring n at (λ i. g i + h i))) where

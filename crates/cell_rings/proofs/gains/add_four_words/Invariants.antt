@@ -1,10 +1,9 @@
 use Rattle.std.proofs.Common.{◌≡◌, length}
 use Rattle.cell_rings.specs.Kinds.{gain_kind}
-use Rattle.cell_rings.specs.Sums.{run_sum, four_scaled, AddsCells}
 use Rattle.cell_rings.specs.Words.{of_word}
+use Rattle.cell_rings.specs.Sums.{AddsFour}
 use Rattle.cell_rings.proofs.gains.add_four_words.Given as goal
 
 abbrev pub invariant-loop-i : goal.invariant-loop-i
 invariant-loop-i l =
-    (length l.out ≡ length l.fn.out)
-    × AddsCells gain_kind (run_sum gain_kind l.i l.at (four_scaled gain_kind of_word l.cells l.one l.other)) l.fn.out l.out
+    (length l.out ≡ length l.fn.out) × AddsFour gain_kind of_word l.fn.out l.out l.at l.i l.cells l.one l.other

@@ -1,58 +1,33 @@
-use Rattle.std.proofs.Common.{◌≡◌, ◌+◌, ◌*◌, arith, rules, refl, ap, ◌∙◌}
-use Rattle.cell_rings.specs.Sums.{cell_at}
+use Rattle.std.proofs.Common.{arith, rules, refl}
 use Rattle.cell_rings.specs.KindLaws.{gain_laws, gain_sizes}
 use Rattle.cell_rings.specs.Kinds.{gain_kind}
-use Rattle.cell_rings.proofs.Runs.{run_room, run_step, two_le}
+use Rattle.cell_rings.proofs.Runs.{sum_is}
+use Rattle.cell_rings.proofs.TwoRuns.{cells_are_factors, two_fit, two_step}
 use Rattle.cell_rings.proofs.gains.add_two_long.Goals as goal
 
 pub mul-requires : goal.mul-requires
 mul-requires c =
-    let r = gain_kind in
-    let room = run_room gain_laws gain_sizes c.args.n c.args.at (λ i. r.plus (r.times c.args.pair.first (cell_at r c.args.cells.now (c.args.pair.from + i))) (r.times c.args.pair.second (cell_at r c.args.cells.now (c.args.pair.beside + i)))) (λ i. r.size c.args.pair.first * r.size (cell_at r c.args.cells.now (c.args.pair.from + i)) + r.size c.args.pair.second * r.size (cell_at r c.args.cells.now (c.args.pair.beside + i))) (λ i. two_le gain_laws gain_sizes c.args.pair.first c.args.pair.second (cell_at r c.args.cells.now (c.args.pair.from + i)) (cell_at r c.args.cells.now (c.args.pair.beside + i))) c.args.out.now c.requires.room c.loop-i.i c.loop-i.out c.loop-i-test.true c.loop-i.invariant.1 in
-    let one : cell_at r c.args.cells.now (c.args.pair.from + c.loop-i.i) ≡ cell_at r c.args.cells.now (c.args.pair.from + c.loop-i.i) = refl in
-    let same = ap (λ x. r.size c.args.pair.first * r.size x) one in
-    omega (arith, room, same)
+    let fit = two_fit (cells_are_factors gain_laws gain_sizes) c.args.at c.args.cells.now c.args.pair c.args.n c.requires.room c.loop-i.i c.loop-i-test.true c.loop-i.invariant.1 in
+    fit.first refl
 
 pub mul-requires-in-loop-i : goal.mul-requires-in-loop-i
 mul-requires-in-loop-i c =
-    let r = gain_kind in
-    let room = run_room gain_laws gain_sizes c.args.n c.args.at (λ i. r.plus (r.times c.args.pair.first (cell_at r c.args.cells.now (c.args.pair.from + i))) (r.times c.args.pair.second (cell_at r c.args.cells.now (c.args.pair.beside + i)))) (λ i. r.size c.args.pair.first * r.size (cell_at r c.args.cells.now (c.args.pair.from + i)) + r.size c.args.pair.second * r.size (cell_at r c.args.cells.now (c.args.pair.beside + i))) (λ i. two_le gain_laws gain_sizes c.args.pair.first c.args.pair.second (cell_at r c.args.cells.now (c.args.pair.from + i)) (cell_at r c.args.cells.now (c.args.pair.beside + i))) c.args.out.now c.requires.room c.loop-i.i c.loop-i.out c.loop-i-test.true c.loop-i.invariant.1 in
-    let two : cell_at r c.args.cells.now (c.args.pair.beside + c.loop-i.i) ≡ cell_at r c.args.cells.now (c.args.pair.beside + c.loop-i.i) = refl in
-    let same = ap (λ x. r.size c.args.pair.second * r.size x) two in
-    omega (arith, room, same)
+    let fit = two_fit (cells_are_factors gain_laws gain_sizes) c.args.at c.args.cells.now c.args.pair c.args.n c.requires.room c.loop-i.i c.loop-i-test.true c.loop-i.invariant.1 in
+    fit.second refl
 
 pub add-both-requires : goal.add-both-requires
 add-both-requires c =
-    let r = gain_kind in
-    let room = run_room gain_laws gain_sizes c.args.n c.args.at (λ i. r.plus (r.times c.args.pair.first (cell_at r c.args.cells.now (c.args.pair.from + i))) (r.times c.args.pair.second (cell_at r c.args.cells.now (c.args.pair.beside + i)))) (λ i. r.size c.args.pair.first * r.size (cell_at r c.args.cells.now (c.args.pair.from + i)) + r.size c.args.pair.second * r.size (cell_at r c.args.cells.now (c.args.pair.beside + i))) (λ i. two_le gain_laws gain_sizes c.args.pair.first c.args.pair.second (cell_at r c.args.cells.now (c.args.pair.from + i)) (cell_at r c.args.cells.now (c.args.pair.beside + i))) c.args.out.now c.requires.room c.loop-i.i c.loop-i.out c.loop-i-test.true c.loop-i.invariant.1 in
-    let one : cell_at r c.args.cells.now (c.args.pair.from + c.loop-i.i) ≡ cell_at r c.args.cells.now (c.args.pair.from + c.loop-i.i) = refl in
-    let two : cell_at r c.args.cells.now (c.args.pair.beside + c.loop-i.i) ≡ cell_at r c.args.cells.now (c.args.pair.beside + c.loop-i.i) = refl in
-    let product = c.mul.ensures ∙ ap (r.times c.args.pair.first) one in
-    let other = c.mul-in-loop-i.ensures ∙ ap (r.times c.args.pair.second) two in
-    omega (arith, room, ap r.size product, ap r.size other, gain_sizes.times c.args.pair.first (cell_at r c.args.cells.now (c.args.pair.from + c.loop-i.i)), gain_sizes.times c.args.pair.second (cell_at r c.args.cells.now (c.args.pair.beside + c.loop-i.i)))
+    let fit = two_fit (cells_are_factors gain_laws gain_sizes) c.args.at c.args.cells.now c.args.pair c.args.n c.requires.room c.loop-i.i c.loop-i-test.true c.loop-i.invariant.1 in
+    fit.both c.mul.ensures c.mul-in-loop-i.ensures
 
 pub add-requires : goal.add-requires
 add-requires c =
-    let r = gain_kind in
-    let room = run_room gain_laws gain_sizes c.args.n c.args.at (λ i. r.plus (r.times c.args.pair.first (cell_at r c.args.cells.now (c.args.pair.from + i))) (r.times c.args.pair.second (cell_at r c.args.cells.now (c.args.pair.beside + i)))) (λ i. r.size c.args.pair.first * r.size (cell_at r c.args.cells.now (c.args.pair.from + i)) + r.size c.args.pair.second * r.size (cell_at r c.args.cells.now (c.args.pair.beside + i))) (λ i. two_le gain_laws gain_sizes c.args.pair.first c.args.pair.second (cell_at r c.args.cells.now (c.args.pair.from + i)) (cell_at r c.args.cells.now (c.args.pair.beside + i))) c.args.out.now c.requires.room c.loop-i.i c.loop-i.out c.loop-i-test.true c.loop-i.invariant.1 in
-    let one : cell_at r c.args.cells.now (c.args.pair.from + c.loop-i.i) ≡ cell_at r c.args.cells.now (c.args.pair.from + c.loop-i.i) = refl in
-    let two : cell_at r c.args.cells.now (c.args.pair.beside + c.loop-i.i) ≡ cell_at r c.args.cells.now (c.args.pair.beside + c.loop-i.i) = refl in
-    let product = c.mul.ensures ∙ ap (r.times c.args.pair.first) one in
-    let other = c.mul-in-loop-i.ensures ∙ ap (r.times c.args.pair.second) two in
-    let old : cell_at r c.loop-i.out (c.args.at + c.loop-i.i) ≡ cell_at r c.loop-i.out (c.args.at + c.loop-i.i) = refl in
-    let sum = c.add-both.ensures ∙ ap (λ z. r.plus z c.mul-in-loop-i.result) product ∙ ap (r.plus (r.times c.args.pair.first (cell_at r c.args.cells.now (c.args.pair.from + c.loop-i.i)))) other in
-    omega (arith, room, ap r.size sum, ap r.size old, two_le gain_laws gain_sizes c.args.pair.first c.args.pair.second (cell_at r c.args.cells.now (c.args.pair.from + c.loop-i.i)) (cell_at r c.args.cells.now (c.args.pair.beside + c.loop-i.i)))
+    let fit = two_fit (cells_are_factors gain_laws gain_sizes) c.args.at c.args.cells.now c.args.pair c.args.n c.requires.room c.loop-i.i c.loop-i-test.true c.loop-i.invariant.1 in
+    fit.all refl (sum_is gain_kind c.add-both.ensures c.mul.ensures c.mul-in-loop-i.ensures)
 
 pub loop-i-preserved : goal.loop-i-preserved
 loop-i-preserved c =
-    let r = gain_kind in
-    let one : cell_at r c.args.cells.now (c.args.pair.from + c.loop-i.i) ≡ cell_at r c.args.cells.now (c.args.pair.from + c.loop-i.i) = refl in
-    let two : cell_at r c.args.cells.now (c.args.pair.beside + c.loop-i.i) ≡ cell_at r c.args.cells.now (c.args.pair.beside + c.loop-i.i) = refl in
-    let product = c.mul.ensures ∙ ap (r.times c.args.pair.first) one in
-    let other = c.mul-in-loop-i.ensures ∙ ap (r.times c.args.pair.second) two in
-    let old : cell_at r c.loop-i.out (c.args.at + c.loop-i.i) ≡ cell_at r c.loop-i.out (c.args.at + c.loop-i.i) = refl in
-    let sum = c.add-both.ensures ∙ ap (λ z. r.plus z c.mul-in-loop-i.result) product ∙ ap (r.plus (r.times c.args.pair.first (cell_at r c.args.cells.now (c.args.pair.from + c.loop-i.i)))) other in
-    let is = c.add.ensures ∙ ap (λ z. r.plus z c.add-both.result) old ∙ ap (r.plus (cell_at r c.loop-i.out (c.args.at + c.loop-i.i))) sum in (
+    let both = sum_is gain_kind c.add-both.ensures c.mul.ensures c.mul-in-loop-i.ensures in (
       search rules,
-      run_step gain_laws gain_sizes c.args.n c.args.at (λ i. r.plus (r.times c.args.pair.first (cell_at r c.args.cells.now (c.args.pair.from + i))) (r.times c.args.pair.second (cell_at r c.args.cells.now (c.args.pair.beside + i)))) (λ i. r.size c.args.pair.first * r.size (cell_at r c.args.cells.now (c.args.pair.from + i)) + r.size c.args.pair.second * r.size (cell_at r c.args.cells.now (c.args.pair.beside + i))) (λ i. two_le gain_laws gain_sizes c.args.pair.first c.args.pair.second (cell_at r c.args.cells.now (c.args.pair.from + i)) (cell_at r c.args.cells.now (c.args.pair.beside + i))) c.args.out.now c.requires.room c.loop-i.i c.loop-i.out c.add.result (omega (arith, c.requires.out, c.loop-i.invariant.0)) is c.loop-i.invariant.1,
+      two_step (cells_are_factors gain_laws gain_sizes) c.args.at c.args.cells.now c.args.pair c.loop-i.i (omega (arith, c.requires.out, c.loop-i.invariant.0)) (sum_is gain_kind c.add.ensures refl both) c.loop-i.invariant.1,
     )
