@@ -2,7 +2,7 @@
 use Rattle.std.proofs.Common.{◌≡◌, ℕ, zero, suc, ◌+◌, ◌*◌, ◌≤◌, List, refl, sym, ap, ◌∙◌, arith, cond, Bool, true, false, ◌==◌}
 use Rattle.cell_rings.specs.Rings.{Ring, IsRing, IsSize, mass_ring}
 use Rattle.cell_rings.specs.RingLaws.{mass_is_ring, mass_sized}
-use Rattle.cell_rings.specs.Sums.{ring_sum, cell_at, run_sum, two_scaled, two_sizes, four_scaled, four_sizes, AddsCells, HasRoom}
+use Rattle.cell_rings.specs.Sums.{ring_sum, cell_at, run_sum, two_scaled, two_sizes, four_scaled, four_sizes, AddsTwo, AddsFour, HasRoomForTwo, HasRoomForFour}
 use Rattle.cell_rings.specs.declared.pairs.Pair.{Pair}
 use Rattle.cell_rings.proofs.Adding.{nat_sum_le, size_sum, adds_then}
 use Rattle.cell_rings.proofs.Runs.{size_if, two_le}
@@ -43,37 +43,52 @@ module _ {C : Type 0} {r : Ring C} (laws : IsRing r) (sizes : IsSize r r.size) w
       let each = nat_sum_le n (λ i. r.size (cond (p == at + i) (f i) r.nought)) (λ i. cond (p == at + i) (g i) 0) (λ i l. size_if laws sizes (p == at + i) (f i) (g i) (le i)) in
       omega (arith, parts, each)
 
-  module _ (n at : ℕ) (f k : ℕ → C) (g h : ℕ → ℕ) (le : (i : ℕ) → r.size (f i) ≤ g i) (xs : List C) (room : HasRoom r xs (run_sum mass_ring n at (λ i. g i + h i))) where
-    -- where there is room for both, there is for the first
-    pub room_first : HasRoom r xs (run_sum mass_ring n at g)
-    room_first = record {
-      each = λ p. let both = run_sum_plus mass_is_ring mass_sized n at p g h in omega (arith, room.each p, both);
+-- factors of a kind of cell: a factor's size is that of the cell that it makes
+pub record AreFactors {C F : Type 0} (r : Ring C) (of : F → C) (size : F → ℕ) : Type 0 where
+  pub laws : IsRing r
+  pub sizes : IsSize r r.size
+  pub same : (a : F) → r.size (of a) ≡ size a
+
+pub cells_are_factors : {C : Type 0} {r : Ring C} → IsRing r → IsSize r r.size → AreFactors r (λ f. f) r.size
+cells_are_factors laws sizes = record { laws = laws; sizes = sizes; same = λ a. refl }
+
+module _ {C F : Type 0} {r : Ring C} {of : F → C} {size : F → ℕ} (factors : AreFactors r of size) (cells : List C) where
+  -- what two runs add to a cell is no larger than the sizes say
+  pub two_size : (pair : Pair F) (i : ℕ) → r.size (two_scaled r of cells pair i) ≤ two_sizes r size cells pair i
+  two_size pair i =
+      let x = cell_at r cells (pair.from + i) in
+      let y = cell_at r cells (pair.beside + i) in
+      let one = ap (λ s. s * r.size x) (factors.same pair.first) in
+      let other = ap (λ s. s * r.size y) (factors.same pair.second) in
+      omega (arith, two_le factors.laws factors.sizes (of pair.first) (of pair.second) x y, one, other)
+
+  pub four_size : (one other : Pair F) (i : ℕ) → r.size (four_scaled r of cells one other i) ≤ four_sizes r size cells one other i
+  four_size one other i = omega (arith, factors.sizes.plus (two_scaled r of cells one i) (two_scaled r of cells other i), two_size one i, two_size other i)
+
+  module _ (one other : Pair F) (n at : ℕ) {xs : List C} where
+    -- where there is room for both pairs of runs, there is for the first
+    pub room_first : HasRoomForFour r size xs at n cells one other → HasRoomForTwo r size xs at n cells one
+    room_first room = record {
+      each = λ p.
+          let both = run_sum_plus mass_is_ring mass_sized n at p (two_sizes r size cells one) (two_sizes r size cells other) in
+          omega (arith, room.each p, both);
     }
 
     -- and for the second when the first is added
-    pub room_then : (ys : List C) → AddsCells r (run_sum r n at f) xs ys → HasRoom r ys (run_sum mass_ring n at h)
-    room_then ys adds = record {
+    pub room_then : HasRoomForFour r size xs at n cells one other → {ys : List C} → AddsTwo r of xs ys at n cells one → HasRoomForTwo r size ys at n cells other
+    room_then room adds = record {
       each = λ p.
-          let both = run_sum_plus mass_is_ring mass_sized n at p g h in
+          let f = two_scaled r of cells one in
+          let g = two_sizes r size cells one in
+          let both = run_sum_plus mass_is_ring mass_sized n at p g (two_sizes r size cells other) in
           let is = ap r.size (adds.each p) in
-          omega (arith, room.each p, both, is, sizes.plus (cell_at r xs p) (run_sum r n at f p), run_size n at p f g le);
+          omega (arith, room.each p, both, is, factors.sizes.plus (cell_at r xs p) (run_sum r n at f p), run_size factors.laws factors.sizes n at p f g (two_size one));
     }
 
     -- then both are added
-    pub both_added : (ys zs : List C) → AddsCells r (run_sum r n at f) xs ys → AddsCells r (run_sum r n at k) ys zs → AddsCells r (run_sum r n at (λ i. r.plus (f i) (k i))) xs zs
-    both_added ys zs one other =
-        let then = adds_then laws sizes (run_sum r n at f) (run_sum r n at k) xs ys zs one other in
-        record { each = λ p. then.each p ∙ ap (r.plus (cell_at r xs p)) (sym (run_sum_plus laws sizes n at p f k)) }
-
-  module _ {F : Type 0} (of : F → C) (size : F → ℕ) (same : (a : F) → r.size (of a) ≡ size a) (cells : List C) where
-    -- what two runs add to a cell is no larger than the sizes say
-    pub two_size : (pair : Pair F) (i : ℕ) → r.size (two_scaled r of cells pair i) ≤ two_sizes r size cells pair i
-    two_size pair i =
-        let x = cell_at r cells (pair.from + i) in
-        let y = cell_at r cells (pair.beside + i) in
-        let one = ap (λ s. s * r.size x) (same pair.first) in
-        let other = ap (λ s. s * r.size y) (same pair.second) in
-        omega (arith, two_le laws sizes (of pair.first) (of pair.second) x y, one, other)
-
-    pub four_size : (one other : Pair F) (i : ℕ) → r.size (four_scaled r of cells one other i) ≤ four_sizes r size cells one other i
-    four_size one other i = omega (arith, sizes.plus (two_scaled r of cells one i) (two_scaled r of cells other i), two_size one i, two_size other i)
+    pub both_added : {ys zs : List C} → AddsTwo r of xs ys at n cells one → AddsTwo r of ys zs at n cells other → AddsFour r of xs zs at n cells one other
+    both_added {ys} {zs} first second =
+        let f = two_scaled r of cells one in
+        let k = two_scaled r of cells other in
+        let then = adds_then factors.laws factors.sizes (run_sum r n at f) (run_sum r n at k) xs ys zs first second in
+        record { each = λ p. then.each p ∙ ap (r.plus (cell_at r xs p)) (sym (run_sum_plus factors.laws factors.sizes n at p f k)) }

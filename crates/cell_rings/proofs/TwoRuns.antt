@@ -1,19 +1,10 @@
 -- Two runs of cells, each times its factor, added to a third: that each step fits, and what is added after it.
-use Rattle.std.proofs.Common.{◌≡◌, ℕ, ◌+◌, ◌*◌, ◌<◌, ◌≤◌, List, length, refl, ap, arith, set}
-use Rattle.cell_rings.specs.Rings.{Ring, IsRing, IsSize}
+use Rattle.std.proofs.Common.{◌≡◌, ℕ, ◌+◌, ◌*◌, ◌<◌, ◌≤◌, List, length, ap, arith, set}
+use Rattle.cell_rings.specs.Rings.{Ring}
 use Rattle.cell_rings.specs.Sums.{cell_at, two_scaled, two_sizes, AddsTwo, HasRoomForTwo}
 use Rattle.cell_rings.specs.declared.pairs.Pair.{Pair}
 use Rattle.cell_rings.proofs.Runs.{run_room, run_step}
-use Rattle.cell_rings.proofs.Together.{two_size}
-
--- factors of a kind of cell: a factor's size is that of the cell that it makes
-pub record AreFactors {C F : Type 0} (r : Ring C) (of : F → C) (size : F → ℕ) : Type 0 where
-  pub laws : IsRing r
-  pub sizes : IsSize r r.size
-  pub same : (a : F) → r.size (of a) ≡ size a
-
-pub cells_are_factors : {C : Type 0} {r : Ring C} → IsRing r → IsSize r r.size → AreFactors r (λ f. f) r.size
-cells_are_factors laws sizes = record { laws = laws; sizes = sizes; same = λ a. refl }
+use Rattle.cell_rings.proofs.Together.{AreFactors, two_size}
 
 -- the i-th cells of both runs times their factors may be added up, and then to the cell that stands here
 pub record TwoFit {C F : Type 0} (r : Ring C) (of : F → C) (size : F → ℕ) (cells : List C) (pair : Pair F) (i : ℕ) (here : C) : Type 0 where
@@ -30,7 +21,7 @@ module _ {C F : Type 0} {r : Ring C} {of : F → C} {size : F → ℕ} (factors 
       let sizes = factors.sizes in
       let x = cell_at r cells (pair.from + i) in
       let y = cell_at r cells (pair.beside + i) in
-      let le = two_size laws sizes of size factors.same cells pair in
+      let le = two_size factors cells pair in
       let room = run_room laws sizes n at (two_scaled r of cells pair) (two_sizes r size cells pair) le given i h adds in
       let one = sizes.times (of pair.first) x in
       let other = sizes.times (of pair.second) y in

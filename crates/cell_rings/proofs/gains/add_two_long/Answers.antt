@@ -2,7 +2,8 @@ use Rattle.std.proofs.Common.{arith, rules, refl}
 use Rattle.cell_rings.specs.KindLaws.{gain_laws, gain_sizes}
 use Rattle.cell_rings.specs.Kinds.{gain_kind}
 use Rattle.cell_rings.proofs.Runs.{sum_is}
-use Rattle.cell_rings.proofs.TwoRuns.{cells_are_factors, two_fit, two_step}
+use Rattle.cell_rings.proofs.Together.{cells_are_factors}
+use Rattle.cell_rings.proofs.TwoRuns.{two_fit, two_step}
 use Rattle.cell_rings.proofs.gains.add_two_long.Goals as goal
 
 pub mul-requires : goal.mul-requires

@@ -4,7 +4,8 @@ use Rattle.cell_rings.specs.Kinds.{gain_kind, as_gain}
 use Rattle.cell_rings.specs.Words.{whole}
 use Rattle.std.specs.Prelude.{nat_abs}
 use Rattle.cell_rings.proofs.Runs.{sum_is}
-use Rattle.cell_rings.proofs.TwoRuns.{AreFactors, two_fit, two_step}
+use Rattle.cell_rings.proofs.Together.{AreFactors}
+use Rattle.cell_rings.proofs.TwoRuns.{two_fit, two_step}
 use Rattle.cell_rings.proofs.gains.add_two_split.Goals as goal
 
 factors : AreFactors gain_kind (λ f. as_gain (whole f)) (λ f. nat_abs (whole f))

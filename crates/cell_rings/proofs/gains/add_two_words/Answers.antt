@@ -3,7 +3,8 @@ use Rattle.cell_rings.specs.KindLaws.{gain_laws, gain_sizes}
 use Rattle.cell_rings.specs.Kinds.{gain_kind}
 use Rattle.cell_rings.specs.Words.{of_word, word_size}
 use Rattle.cell_rings.proofs.Runs.{sum_is}
-use Rattle.cell_rings.proofs.TwoRuns.{AreFactors, two_fit, two_step}
+use Rattle.cell_rings.proofs.Together.{AreFactors}
+use Rattle.cell_rings.proofs.TwoRuns.{two_fit, two_step}
 use Rattle.cell_rings.proofs.gains.add_two_words.Goals as goal
 
 factors : AreFactors gain_kind of_word word_size

@@ -2,7 +2,8 @@ use Rattle.std.proofs.Common.{arith, rules, refl}
 use Rattle.cell_rings.specs.KindLaws.{mass_laws, mass_sizes}
 use Rattle.cell_rings.specs.Kinds.{mass_kind}
 use Rattle.cell_rings.proofs.Runs.{sum_is}
-use Rattle.cell_rings.proofs.TwoRuns.{cells_are_factors, two_fit, two_step}
+use Rattle.cell_rings.proofs.Together.{cells_are_factors}
+use Rattle.cell_rings.proofs.TwoRuns.{two_fit, two_step}
 use Rattle.cell_rings.proofs.masses.add_two_long.Goals as goal
 
 pub mul-requires : goal.mul-requires

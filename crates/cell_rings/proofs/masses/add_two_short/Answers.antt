@@ -2,7 +2,8 @@ use Rattle.std.proofs.Common.{arith, rules, refl}
 use Rattle.cell_rings.specs.KindLaws.{mass_laws, mass_sizes}
 use Rattle.cell_rings.specs.Kinds.{mass_kind, mass_of}
 use Rattle.cell_rings.proofs.Runs.{sum_is}
-use Rattle.cell_rings.proofs.TwoRuns.{AreFactors, two_fit, two_step}
+use Rattle.cell_rings.proofs.Together.{AreFactors}
+use Rattle.cell_rings.proofs.TwoRuns.{two_fit, two_step}
 use Rattle.cell_rings.proofs.masses.add_two_short.Goals as goal
 
 factors : AreFactors mass_kind mass_of (λ f. f)

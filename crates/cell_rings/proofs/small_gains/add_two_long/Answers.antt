@@ -2,7 +2,8 @@ use Rattle.std.proofs.Common.{arith, rules, refl}
 use Rattle.cell_rings.specs.KindLaws.{small_gain_laws, small_gain_sizes}
 use Rattle.cell_rings.specs.Kinds.{small_gain_kind}
 use Rattle.cell_rings.proofs.Runs.{sum_is}
-use Rattle.cell_rings.proofs.TwoRuns.{cells_are_factors, two_fit, two_step}
+use Rattle.cell_rings.proofs.Together.{cells_are_factors}
+use Rattle.cell_rings.proofs.TwoRuns.{two_fit, two_step}
 use Rattle.cell_rings.proofs.small_gains.add_two_long.Goals as goal
 
 pub mul-requires : goal.mul-requires

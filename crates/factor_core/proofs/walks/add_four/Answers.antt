@@ -1,6 +1,5 @@
-use Rattle.std.proofs.Common.{refl, arith}
-use Rattle.cell_rings.specs.Sums.{two_scaled, two_sizes}
-use Rattle.cell_rings.proofs.Together.{room_first, room_then, both_added, two_size}
+use Rattle.std.proofs.Common.{arith}
+use Rattle.cell_rings.proofs.Together.{cells_are_factors, room_first, room_then, both_added}
 use Rattle.factor_core.proofs.walks.add_four.Goals as goal
 
 pub add_four_narrow-requires-clause-out : goal.add_four_narrow-requires-clause-out
@@ -20,10 +19,8 @@ add_two_scaled-requires-clause-cells g c = c.requires.cells.0
 
 pub add_two_scaled-requires-clause-room : goal.add_two_scaled-requires-clause-room
 add_two_scaled-requires-clause-room g c =
-    let r = g.C.Cell.ring in
     let m = g.met.C.Cell in
-    let cells = c.args.cells.now in
-    room_first m.laws m.sizes c.args.n c.args.at (two_scaled r (λ f. f) cells c.args.one.now) (two_scaled r (λ f. f) cells c.args.other.now) (two_sizes r r.size cells c.args.one.now) (two_sizes r r.size cells c.args.other.now) (two_size m.laws m.sizes (λ f. f) r.size (λ a. refl) cells c.args.one.now) c.args.out.now c.requires.room
+    room_first (cells_are_factors m.laws m.sizes) c.args.cells.now c.args.one.now c.args.other.now c.args.n c.args.at c.requires.room
 
 pub add_two_scaled-requires-else-has-clause-out : goal.add_two_scaled-requires-else-has-clause-out
 add_two_scaled-requires-else-has-clause-out g c = omega (arith, c.requires.out, c.add_two_scaled.auto.out)
@@ -33,17 +30,13 @@ add_two_scaled-requires-else-has-clause-cells g c = c.requires.cells.1
 
 pub add_two_scaled-requires-else-has-clause-room : goal.add_two_scaled-requires-else-has-clause-room
 add_two_scaled-requires-else-has-clause-room g c =
-    let r = g.C.Cell.ring in
     let m = g.met.C.Cell in
-    let cells = c.args.cells.now in
-    room_then m.laws m.sizes c.args.n c.args.at (two_scaled r (λ f. f) cells c.args.one.now) (two_scaled r (λ f. f) cells c.args.other.now) (two_sizes r r.size cells c.args.one.now) (two_sizes r r.size cells c.args.other.now) (two_size m.laws m.sizes (λ f. f) r.size (λ a. refl) cells c.args.one.now) c.args.out.now c.requires.room c.add_two_scaled.new.out c.add_two_scaled.ensures
+    room_then (cells_are_factors m.laws m.sizes) c.args.cells.now c.args.one.now c.args.other.now c.args.n c.args.at c.requires.room c.add_two_scaled.ensures
 
 pub returns-then-has-4 : goal.returns-then-has-4
 returns-then-has-4 g c = c.add_four_narrow.ensures
 
 pub returns-else-has : goal.returns-else-has
 returns-else-has g c =
-    let r = g.C.Cell.ring in
     let m = g.met.C.Cell in
-    let cells = c.args.cells.now in
-    both_added m.laws m.sizes c.args.n c.args.at (two_scaled r (λ f. f) cells c.args.one.now) (two_scaled r (λ f. f) cells c.args.other.now) (two_sizes r r.size cells c.args.one.now) (two_sizes r r.size cells c.args.other.now) (two_size m.laws m.sizes (λ f. f) r.size (λ a. refl) cells c.args.one.now) c.args.out.now c.requires.room c.add_two_scaled.new.out c.add_two_scaled-else-has.new.out c.add_two_scaled.ensures c.add_two_scaled-else-has.ensures
+    both_added (cells_are_factors m.laws m.sizes) c.args.cells.now c.args.one.now c.args.other.now c.args.n c.args.at c.add_two_scaled.ensures c.add_two_scaled-else-has.ensures
