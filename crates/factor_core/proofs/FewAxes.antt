@@ -55,27 +55,26 @@ row_below strides below n k b count two =
     let rows : length strides ≡ 2 * n = subst (λ k. length strides ≡ k * n) two count in
     omega (arith, len)
 
-module _ {C : Type 0} (r : Ring C) (cells : List C) (axes list : List Axis) (e : axes ≡ list) (strides places : List ℕ) (at : ℕ) where
-  pub can_as : (out : List C) → CanWalk r cells axes strides places out at → CanWalk r cells list strides places out at
-  can_as out can = subst (λ l. CanWalk r cells l strides places out at) e can
+module _ {C : Type 0} {r : Ring C} {cells : List C} {axes list : List Axis} {strides places : List ℕ} {out : List C} {at : ℕ} (can : CanWalk r cells axes strides places out at) (e : axes ≡ list) where
+  pub can_as : CanWalk r cells list strides places out at
+  can_as = subst (λ l. CanWalk r cells l strides places out at) e can
 
-  pub adds_as : (old new : List C) → AddsTotal r cells list strides places at old new → AddsTotal r cells axes strides places at old new
-  adds_as old new adds = subst (λ l. AddsTotal r cells l strides places at old new) (sym e) adds
+  pub adds_as : {new : List C} → AddsTotal r cells list strides places at out new → AddsTotal r cells axes strides places at out new
+  adds_as {new} adds = subst (λ l. AddsTotal r cells l strides places at out new) (sym e) adds
 
 -- what is added at one place, said in another way
-pub adds_same : {C : Type 0} (r : Ring C) (at : ℕ) (old new : List C) (x y : C) → x ≡ y → AddsCells r (λ p. cond (p == at) x r.nought) old new → AddsCells r (λ p. cond (p == at) y r.nought) old new
-adds_same r at old new x y e adds = subst (λ z. AddsCells r (λ p. cond (p == at) z r.nought) old new) e adds
+pub adds_same : {C : Type 0} {r : Ring C} (at : ℕ) {old new : List C} {x y : C} → x ≡ y → AddsCells r (λ p. cond (p == at) x r.nought) old new → AddsCells r (λ p. cond (p == at) y r.nought) old new
+adds_same {r = r} at {old} {new} e adds = subst (λ z. AddsCells r (λ p. cond (p == at) z r.nought) old new) e adds
 
 -- the walk over no axis: one product at one place
-module _ {C : Type 0} (r : Ring C) (cells : List C) (axes : List Axis) (e : axes ≡ []) (strides places : List ℕ) (at : ℕ) where
-  pub met_here : (out : List C) → CanWalk r cells axes strides places out at → IsMet r cells (length out) places at
-  met_here out can = (can_as r cells axes [] e strides places at out can).met
+module _ {C : Type 0} {r : Ring C} {cells : List C} {axes : List Axis} {strides places : List ℕ} {out : List C} {at : ℕ} (can : CanWalk r cells axes strides places out at) (e : axes ≡ []) where
+  pub met_here : IsMet r cells (length out) places at
+  met_here = (can_as can e).met
 
-  pub room_here : (out : List C) (x : C) → CanWalk r cells axes strides places out at → r.size x ≤ product_at mass_ring (sizes_of r cells) places → r.size (cell_at r out at) + r.size x ≤ r.most
-  room_here out x can le =
-      let room = (can_as r cells axes [] e strides places at out can).room.each at in
+  pub room_here : {x : C} → r.size x ≤ product_at mass_ring (sizes_of r cells) places → r.size (cell_at r out at) + r.size x ≤ r.most
+  room_here le =
+      let room = (can_as can e).room.each at in
       omega (arith, room, chosen at at (product_at mass_ring (sizes_of r cells) places) 0 refl)
 
-  pub adds_here : (old new : List C) (x : C) → x ≡ product_at r cells places → AddsCells r (λ p. cond (p == at) x r.nought) old new → AddsTotal r cells axes strides places at old new
-  adds_here old new x is adds =
-      adds_as r cells axes [] e strides places at old new (adds_same r at old new x (product_at r cells places) is adds)
+  pub adds_here : {new : List C} {x : C} → x ≡ product_at r cells places → AddsCells r (λ p. cond (p == at) x r.nought) out new → AddsTotal r cells axes strides places at out new
+  adds_here is adds = adds_as can e (adds_same at is adds)

@@ -21,7 +21,7 @@ total_sum r laws cells a ds places at p stands =
     ap (λ k. cond (p == k) (product_at r cells (shifted s ds places)) r.nought) there)
     ∙ sum_if r laws a.states (p == at) (λ s. product_at r cells (shifted s ds places))
 
-module _ {C : Type 0} {r : Ring C} (laws : IsRing r) (sizes : IsSize r r.size) (cells : List C) (a : Axis) (ds places : List ℕ) (out : List C) (at : ℕ) (stands : a.out ≡ 0) (can : CanWalk r cells (a ∷ []) ds places out at) where
+module _ {C : Type 0} {r : Ring C} (laws : IsRing r) (sizes : IsSize r r.size) {cells : List C} {a : Axis} {ds places : List ℕ} {out : List C} {at : ℕ} (stands : a.out ≡ 0) (can : CanWalk r cells (a ∷ []) ds places out at) where
   abbrev term : ℕ → C
   term s = product_at r cells (shifted s ds places)
 

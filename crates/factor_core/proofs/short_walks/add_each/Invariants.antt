@@ -1,14 +1,6 @@
-use Rattle.std.proofs.Common.{drop, [], ◌≡◌, ◌+◌, ◌*◌, length}
-use Rattle.cell_rings.specs.Sums.{ring_sum, AddsCells}
-use Rattle.factor_core.specs.Walks.{shifted, total}
+use Rattle.std.proofs.Common.{[]}
+use Rattle.factor_core.proofs.Walking.{HasReached}
 use Rattle.factor_core.proofs.short_walks.add_each.Given as goal
 
 abbrev pub invariant-loop : goal.invariant-loop
-invariant-loop g l =
-    let r = g.C.Cell.ring in
-    record {
-      here : l.here ≡ shifted l.counter l.strides l.places;
-      place : l.place ≡ l.fn.at + l.counter * l.axis.out;
-      len : length l.out ≡ length l.fn.out;
-      adds : AddsCells r (λ p. ring_sum r l.counter (λ s. total r l.cells [] (drop (length l.places) l.strides) (shifted s l.strides l.places) (l.fn.at + s * l.axis.out) p)) l.fn.out l.out;
-    }
+invariant-loop g l = HasReached g.C.Cell.ring l.cells l.axis [] l.strides l.places l.fn.out l.fn.at l.counter l.here l.place l.out

@@ -1,11 +1,9 @@
-use Rattle.std.proofs.Common.{length, drop, [], refl}
+use Rattle.std.proofs.Common.{refl}
 use Rattle.factor_core.proofs.Walking.{strides_enough}
 use Rattle.factor_core.proofs.walks.add_axis.Goals as goal
 
 pub is_run-requires : goal.is_run-requires
-is_run-requires g c =
-    let m = g.met.C.Cell in
-    strides_enough m.laws m.sizes c.args.cells.now c.args.axis [] c.args.strides.now (drop (length c.args.places.now) c.args.strides.now) c.args.places.now c.args.out.now c.args.at refl c.requires
+is_run-requires g c = strides_enough c.requires
 
 pub add_moved-requires-clause-moved : goal.add_moved-requires-clause-moved
 add_moved-requires-clause-moved g c = c.if-is_run.ensures refl
@@ -20,9 +18,7 @@ pub returns-then-is_run-clause-places : goal.returns-then-is_run-clause-places
 returns-then-is_run-clause-places g c = refl
 
 pub is_turned-requires : goal.is_turned-requires
-is_turned-requires g c =
-    let m = g.met.C.Cell in
-    strides_enough m.laws m.sizes c.args.cells.now c.args.axis [] c.args.strides.now (drop (length c.args.places.now) c.args.strides.now) c.args.places.now c.args.out.now c.args.at refl c.requires
+is_turned-requires g c = strides_enough c.requires
 
 pub add_moved-requires-then-is_turned-clause-moved : goal.add_moved-requires-then-is_turned-clause-moved
 add_moved-requires-then-is_turned-clause-moved g c = c.if-is_turned.ensures.0 refl
@@ -37,14 +33,10 @@ pub returns-then-is_turned-clause-places : goal.returns-then-is_turned-clause-pl
 returns-then-is_turned-clause-places g c = refl
 
 pub count_standing-stand-requires : goal.count_standing-stand-requires
-count_standing-stand-requires g c =
-    let m = g.met.C.Cell in
-    strides_enough m.laws m.sizes c.args.cells.now c.args.axis [] c.args.strides.now (drop (length c.args.places.now) c.args.strides.now) c.args.places.now c.args.out.now c.args.at refl c.requires
+count_standing-stand-requires g c = strides_enough c.requires
 
 pub is_dot-requires-clause-count : goal.is_dot-requires-clause-count
-is_dot-requires-clause-count g c =
-    let m = g.met.C.Cell in
-    strides_enough m.laws m.sizes c.args.cells.now c.args.axis [] c.args.strides.now (drop (length c.args.places.now) c.args.strides.now) c.args.places.now c.args.out.now c.args.at refl c.requires
+is_dot-requires-clause-count g c = strides_enough c.requires
 
 pub is_dot-requires-clause-stand : goal.is_dot-requires-clause-stand
 is_dot-requires-clause-stand g c = c.count_standing-stand.ensures.within

@@ -1,64 +1,45 @@
-use Rattle.std.proofs.Common.{◌≡◌, length, drop, [], arith, refl, sym, ◌∙◌}
-use Rattle.cell_rings.specs.Rings.{mass_ring}
-use Rattle.cell_rings.specs.Sums.{product_at, sizes_of}
-use Rattle.cell_rings.proofs.Runs.{chosen}
-use Rattle.factor_core.specs.Walks.{shifted}
-use Rattle.factor_core.proofs.Shifts.{shifted_none}
-use Rattle.factor_core.proofs.Walking.{place_fits, advance_fits, advanced, can_next, adds_first, adds_next, adds_all, retreat_fits, retreated, still_enough}
-use Rattle.factor_core.proofs.FewAxes.{adds_same}
-use Rattle.factor_core.proofs.Ends.{same_end, at_end}
+use Rattle.std.proofs.Common.{arith, refl}
+use Rattle.factor_core.proofs.Walking.{begun, place_fits, advance_fits, advanced, can_next, reached_next, all_added, retreat_fits, retreated, still_enough}
+use Rattle.factor_core.proofs.FewAxes.{met_here, room_here, adds_here}
 use Rattle.factor_core.proofs.walks.add_line.Goals as goal
 
 pub loop-init : goal.loop-init
 loop-init g c =
     let m = g.met.C.Cell in
-    record {
-      places = sym (shifted_none c.args.strides.now c.args.places.now);
-      place = omega arith;
-      len = refl;
-      adds = adds_first m.laws m.sizes c.args.cells.now c.args.axis [] c.args.strides.now (drop (length c.args.places.now) c.args.strides.now) c.args.places.now c.args.out.now c.args.at refl c.requires;
-    }
+    begun c.requires m.laws m.sizes
 
 pub product-requires-clause-within : goal.product-requires-clause-within
 product-requires-clause-within g c =
     let m = g.met.C.Cell in
-    let next = can_next m.laws m.sizes c.args.cells.now c.args.axis [] c.args.strides.now (drop (length c.args.places.now) c.args.strides.now) c.args.places.now c.args.out.now c.args.at refl c.requires c.loop.counter c.loop.places c.loop.place c.loop.out c.loop-test.true c.loop.invariant.places c.loop.invariant.place c.loop.invariant.len c.loop.invariant.adds in
-    next.met.within
+    let next = can_next c.requires refl m.laws m.sizes c.loop-test.true c.loop.invariant in
+    (met_here next refl).within
 
 pub product-requires-clause-fits : goal.product-requires-clause-fits
 product-requires-clause-fits g c =
     let m = g.met.C.Cell in
-    let next = can_next m.laws m.sizes c.args.cells.now c.args.axis [] c.args.strides.now (drop (length c.args.places.now) c.args.strides.now) c.args.places.now c.args.out.now c.args.at refl c.requires c.loop.counter c.loop.places c.loop.place c.loop.out c.loop-test.true c.loop.invariant.places c.loop.invariant.place c.loop.invariant.len c.loop.invariant.adds in
-    next.met.fits
+    let next = can_next c.requires refl m.laws m.sizes c.loop-test.true c.loop.invariant in
+    (met_here next refl).fits
 
 pub add_at-requires-clause-at : goal.add_at-requires-clause-at
 add_at-requires-clause-at g c =
     let m = g.met.C.Cell in
-    let next = can_next m.laws m.sizes c.args.cells.now c.args.axis [] c.args.strides.now (drop (length c.args.places.now) c.args.strides.now) c.args.places.now c.args.out.now c.args.at refl c.requires c.loop.counter c.loop.places c.loop.place c.loop.out c.loop-test.true c.loop.invariant.places c.loop.invariant.place c.loop.invariant.len c.loop.invariant.adds in
-    next.met.out
+    let next = can_next c.requires refl m.laws m.sizes c.loop-test.true c.loop.invariant in
+    (met_here next refl).out
 
 pub add_at-requires-clause-fits : goal.add_at-requires-clause-fits
 add_at-requires-clause-fits g c =
     let m = g.met.C.Cell in
-    let next = can_next m.laws m.sizes c.args.cells.now c.args.axis [] c.args.strides.now (drop (length c.args.places.now) c.args.strides.now) c.args.places.now c.args.out.now c.args.at refl c.requires c.loop.counter c.loop.places c.loop.place c.loop.out c.loop-test.true c.loop.invariant.places c.loop.invariant.place c.loop.invariant.len c.loop.invariant.adds in
-    let r = g.C.Cell.ring in
-    let most = product_at mass_ring (sizes_of r c.args.cells.now) c.loop.places in
-    omega (arith, next.room.each c.loop.place, chosen c.loop.place c.loop.place most 0 refl, c.product.ensures.size)
+    let next = can_next c.requires refl m.laws m.sizes c.loop-test.true c.loop.invariant in
+    room_here next refl c.product.ensures.size
 
 pub overflow_add-place : goal.overflow_add-place
-overflow_add-place g c =
-    let m = g.met.C.Cell in
-    omega (arith, place_fits m.laws m.sizes c.args.cells.now c.args.axis [] c.args.strides.now (drop (length c.args.places.now) c.args.strides.now) c.args.places.now c.args.out.now c.args.at refl c.requires c.loop.counter c.loop.place c.loop-test.true c.loop.invariant.place)
+overflow_add-place g c = omega (arith, place_fits c.requires c.loop-test.true c.loop.invariant)
 
 pub advance-requires-clause-strides : goal.advance-requires-clause-strides
-advance-requires-clause-strides g c =
-    let m = g.met.C.Cell in
-    still_enough m.laws m.sizes c.args.cells.now c.args.axis [] c.args.strides.now (drop (length c.args.places.now) c.args.strides.now) c.args.places.now c.args.out.now c.args.at refl c.requires c.loop.counter c.loop.places c.loop.invariant.places
+advance-requires-clause-strides g c = still_enough c.requires c.loop.counter c.loop.invariant.moved
 
 pub advance-requires-clause-fits : goal.advance-requires-clause-fits
-advance-requires-clause-fits g c =
-    let m = g.met.C.Cell in
-    advance_fits m.laws m.sizes c.args.cells.now c.args.axis [] c.args.strides.now (drop (length c.args.places.now) c.args.strides.now) c.args.places.now c.args.out.now c.args.at refl c.requires c.loop.counter c.loop.places c.loop-test.true c.loop.invariant.places
+advance-requires-clause-fits g c = advance_fits c.requires c.loop.counter c.loop-test.true c.loop.invariant.moved
 
 pub loop-smaller : goal.loop-smaller
 loop-smaller g c = omega (arith, c.loop-test.true)
@@ -66,33 +47,18 @@ loop-smaller g c = omega (arith, c.loop-test.true)
 pub loop-preserved : goal.loop-preserved
 loop-preserved g c =
     let m = g.met.C.Cell in
-    let r = g.C.Cell.ring in
-    let cell = adds_same r c.loop.place c.loop.out c.add_at.new.out c.product.result (product_at r c.args.cells.now c.loop.places) c.product.ensures.product c.add_at.ensures in
-    record {
-      places = advanced m.laws m.sizes c.args.cells.now c.args.axis [] c.args.strides.now (drop (length c.args.places.now) c.args.strides.now) c.args.places.now c.args.out.now c.args.at refl c.requires c.loop.counter c.loop.places c.advance.new.places c.loop.invariant.places c.advance.auto.places c.advance.ensures;
-      place = omega (arith, c.loop.invariant.place);
-      len = c.add_at.auto.out ∙ c.loop.invariant.len;
-      adds = adds_next m.laws m.sizes c.args.cells.now c.args.axis [] c.args.strides.now (drop (length c.args.places.now) c.args.strides.now) c.args.places.now c.args.out.now c.args.at refl c.requires c.loop.counter c.loop.places c.loop.place c.loop.out c.add_at.new.out c.loop.invariant.places c.loop.invariant.place c.loop.invariant.adds cell;
-    }
+    let next = can_next c.requires refl m.laws m.sizes c.loop-test.true c.loop.invariant in
+    let there = advanced c.requires c.loop.counter c.loop.invariant.moved c.advance.auto.places c.advance.ensures in
+    reached_next c.requires refl m.laws m.sizes c.loop.invariant there c.add_at.auto.out (adds_here next refl c.product.ensures.product c.add_at.ensures)
 
 pub retreat-requires-clause-strides : goal.retreat-requires-clause-strides
-retreat-requires-clause-strides g c =
-    let m = g.met.C.Cell in
-    still_enough m.laws m.sizes c.args.cells.now c.args.axis [] c.args.strides.now (drop (length c.args.places.now) c.args.strides.now) c.args.places.now c.args.out.now c.args.at refl c.requires c.loop.counter c.loop.places c.loop.invariant.places
+retreat-requires-clause-strides g c = still_enough c.requires c.loop.counter c.loop.invariant.moved
 
 pub retreat-requires-clause-fits : goal.retreat-requires-clause-fits
-retreat-requires-clause-fits g c =
-    let m = g.met.C.Cell in
-    let there = at_end (λ k. c.loop.places ≡ shifted k c.args.strides.now c.args.places.now) c.loop.counter c.args.axis.states c.loop-test.false c.loop.auto.counter-end c.loop.invariant.places in
-    retreat_fits m.laws m.sizes c.args.cells.now c.args.axis [] c.args.strides.now (drop (length c.args.places.now) c.args.strides.now) c.args.places.now c.args.out.now c.args.at refl c.requires c.loop.places there
+retreat-requires-clause-fits g c = retreat_fits c.requires c.loop.invariant c.loop-test.false c.loop.auto.counter-end
 
 pub returns-clause-adds : goal.returns-clause-adds
-returns-clause-adds g c =
-    let m = g.met.C.Cell in
-    adds_all m.laws m.sizes c.args.cells.now c.args.axis [] c.args.strides.now (drop (length c.args.places.now) c.args.strides.now) c.args.places.now c.args.out.now c.args.at refl c.requires c.loop.counter c.loop.out (same_end c.loop.counter c.args.axis.states c.loop-test.false c.loop.auto.counter-end) c.loop.invariant.adds
+returns-clause-adds g c = all_added c.requires c.loop.invariant c.loop-test.false c.loop.auto.counter-end
 
 pub returns-clause-places : goal.returns-clause-places
-returns-clause-places g c =
-    let m = g.met.C.Cell in
-    let there = at_end (λ k. c.loop.places ≡ shifted k c.args.strides.now c.args.places.now) c.loop.counter c.args.axis.states c.loop-test.false c.loop.auto.counter-end c.loop.invariant.places in
-    retreated m.laws m.sizes c.args.cells.now c.args.axis [] c.args.strides.now (drop (length c.args.places.now) c.args.strides.now) c.args.places.now c.args.out.now c.args.at refl c.requires c.loop.places c.retreat.new.places there c.retreat.auto.places c.retreat.ensures
+returns-clause-places g c = retreated c.requires c.loop.invariant c.loop-test.false c.loop.auto.counter-end c.retreat.auto.places c.retreat.ensures
