@@ -14,6 +14,7 @@ pub mod SizeLemmas
 pub mod Listing
 pub mod Joining
 pub mod Ordering
+pub mod FillWalk
 pub mod JoinWalk
 pub mod ProductWalk
 pub mod Placing

@@ -4,7 +4,7 @@ use Rattle.node_sets.specs.Sets.{holds}
 use Rattle.factor_core.specs.declared.walks.Axis.{Axis}
 use Rattle.factor_core.specs.Scopes.{united_but}
 use Rattle.factor_core.specs.Tables.{states_in, stride_over, axes_of, stride_rows, stride_row, with_extra}
-use Rattle.factor_core.proofs.JoinWalk.{axes_in_order, begins_with, joins_with}
+use Rattle.factor_core.proofs.JoinWalk.{axes_in_order, can_begin, joins_with}
 use Rattle.factor_core.proofs.StrideRows.{listed_cong}
 use Rattle.factor_core.proofs.joins.join_in.Goals as goal
 
@@ -119,9 +119,9 @@ walk_over-requires-clause-can g c =
     let is = c.before-order.ensures ∙ c.list_nodes-kept.ensures.list in
     let many : length c.before-order.result.now ≡ c.list_nodes-kept.result = ap length c.before-order.ensures ∙ length-take-le c.list_nodes-kept.result c.list_nodes-kept.new.order (omega (arith, c.list_nodes-kept.ensures.within)) in
     let first = ap (λ k. take k c.set_axes.new.axes) (sym many) ∙ c.set_axes.ensures ∙ ap (axes_of (states_in counts) (stride_over counts c.args.scope.now)) is in
-    let axes = axes_in_order m.laws m.sizes c.args.cells.now c.args.counts.now c.args.slots.now c.args.node c.args.scope.now c.args.out.now c.requires.can c.summed_place-at.result c.before-axes.result.now (get_or counts c.args.node 0) (get_or_default counts c.args.node 0 1 c.requires.can.node) (c.before-axes.ensures ∙ c.insert_axis.ensures ∙ ap (with_extra at (let a : Axis = record { states = get_or counts c.args.node 0; out = 0 } in a)) first) in
+    let axes = axes_in_order m.laws m.sizes c.requires.can c.summed_place-at.result c.before-axes.result.now (get_or counts c.args.node 0) (get_or_default counts c.args.node 0 1 c.requires.can.node) (c.before-axes.ensures ∙ c.insert_axis.ensures ∙ ap (with_extra at (let a : Axis = record { states = get_or counts c.args.node 0; out = 0 } in a)) first) in
     let strides = c.before-strides.ensures ∙ ap (λ k. take ((k + 1) * length slots) c.set_strides_with.new.strides) (sym many) ∙ c.set_strides_with.ensures ∙ ap (λ l. stride_rows (stride_row counts slots) (with_extra at c.args.node l)) is in
-    begins_with m.laws m.sizes c.args.cells.now c.args.counts.now c.args.slots.now c.args.node c.args.scope.now c.args.out.now c.requires.can c.summed_place-at.result _ _ _ axes strides c.set_places.ensures
+    can_begin m.laws m.sizes c.requires.can c.summed_place-at.result axes strides c.set_places.ensures
 
 pub returns : goal.returns
 returns g c =
@@ -132,6 +132,6 @@ returns g c =
     let is = c.before-order.ensures ∙ c.list_nodes-kept.ensures.list in
     let many : length c.before-order.result.now ≡ c.list_nodes-kept.result = ap length c.before-order.ensures ∙ length-take-le c.list_nodes-kept.result c.list_nodes-kept.new.order (omega (arith, c.list_nodes-kept.ensures.within)) in
     let first = ap (λ k. take k c.set_axes.new.axes) (sym many) ∙ c.set_axes.ensures ∙ ap (axes_of (states_in counts) (stride_over counts c.args.scope.now)) is in
-    let axes = axes_in_order m.laws m.sizes c.args.cells.now c.args.counts.now c.args.slots.now c.args.node c.args.scope.now c.args.out.now c.requires.can c.summed_place-at.result c.before-axes.result.now (get_or counts c.args.node 0) (get_or_default counts c.args.node 0 1 c.requires.can.node) (c.before-axes.ensures ∙ c.insert_axis.ensures ∙ ap (with_extra at (let a : Axis = record { states = get_or counts c.args.node 0; out = 0 } in a)) first) in
+    let axes = axes_in_order m.laws m.sizes c.requires.can c.summed_place-at.result c.before-axes.result.now (get_or counts c.args.node 0) (get_or_default counts c.args.node 0 1 c.requires.can.node) (c.before-axes.ensures ∙ c.insert_axis.ensures ∙ ap (with_extra at (let a : Axis = record { states = get_or counts c.args.node 0; out = 0 } in a)) first) in
     let strides = c.before-strides.ensures ∙ ap (λ k. take ((k + 1) * length slots) c.set_strides_with.new.strides) (sym many) ∙ c.set_strides_with.ensures ∙ ap (λ l. stride_rows (stride_row counts slots) (with_extra at c.args.node l)) is in
-    joins_with m.laws m.sizes c.args.cells.now c.args.counts.now c.args.slots.now c.args.node c.args.scope.now c.args.out.now c.requires.can c.summed_place-at.result _ _ _ axes strides c.set_places.ensures c.walk_over.new.out c.walk_over.ensures
+    joins_with m.laws m.sizes c.requires.can c.summed_place-at.result axes strides c.set_places.ensures c.walk_over.ensures
