@@ -14,6 +14,7 @@ pub mod SizeLemmas
 pub mod Listing
 pub mod Joining
 pub mod Ordering
+pub mod Parts
 pub mod FillWalk
 pub mod JoinWalk
 pub mod ProductWalk

@@ -1,16 +1,13 @@
-use Rattle.std.proofs.Common.{◌≡◌, ◌+◌, ◌*◌, ◌<◌, ℕ, List, length, take, get_or, sym, ap, ◌∙◌, arith}
+use Rattle.std.proofs.Common.{◌≡◌, ◌+◌, ◌*◌, length, take, get_or, sym, ap, ◌∙◌, arith}
 use Rattle.std.proofs.lemmas.List.{length-take-le, get_or_default}
 use Rattle.node_sets.specs.Sets.{holds}
 use Rattle.factor_core.specs.declared.walks.Axis.{Axis}
 use Rattle.factor_core.specs.Scopes.{united_but}
 use Rattle.factor_core.specs.Tables.{states_in, stride_over, axes_of, stride_rows, stride_row, with_extra}
 use Rattle.factor_core.proofs.JoinWalk.{axes_in_order, can_begin, joins_with}
+use Rattle.factor_core.proofs.Parts.{count_first}
 use Rattle.factor_core.proofs.StrideRows.{listed_cong}
 use Rattle.factor_core.proofs.joins.join_in.Goals as goal
-
--- so many nodes are kept
-count_kept : (k : ℕ) (order kept : List ℕ) → k < length order → kept ≡ take k order → length kept ≡ k
-count_kept k order kept l e = ap length e ∙ length-take-le k order (omega arith)
 
 pub list_nodes-kept-requires-clause-few : goal.list_nodes-kept-requires-clause-few
 list_nodes-kept-requires-clause-few g c = c.requires.can.are_counts.few
@@ -47,7 +44,7 @@ bounds-counts-node g c = c.requires.can.node
 
 pub insert_axis-requires-clause-room : goal.insert_axis-requires-clause-room
 insert_axis-requires-clause-room g c =
-    let many = count_kept c.list_nodes-kept.result c.list_nodes-kept.new.order c.before-order.result.now (omega (arith, c.list_nodes-kept.ensures.within, c.list_nodes-kept.auto.order)) c.before-order.ensures in
+    let many = count_first c.list_nodes-kept.result c.list_nodes-kept.new.order (omega (arith, c.list_nodes-kept.ensures.within, c.list_nodes-kept.auto.order)) c.before-order.ensures in
     omega (arith, many, ap length (c.before-order.ensures ∙ c.list_nodes-kept.ensures.list), c.requires.axes, c.set_axes.auto.axes)
 
 pub insert_axis-requires-clause-at : goal.insert_axis-requires-clause-at
@@ -61,7 +58,7 @@ set_strides_with-requires-clause-node g c = c.requires.can.node
 
 pub set_strides_with-requires-clause-at : goal.set_strides_with-requires-clause-at
 set_strides_with-requires-clause-at g c =
-    let many = count_kept c.list_nodes-kept.result c.list_nodes-kept.new.order c.before-order.result.now (omega (arith, c.list_nodes-kept.ensures.within, c.list_nodes-kept.auto.order)) c.before-order.ensures in
+    let many = count_first c.list_nodes-kept.result c.list_nodes-kept.new.order (omega (arith, c.list_nodes-kept.ensures.within, c.list_nodes-kept.auto.order)) c.before-order.ensures in
     omega (arith, many, c.summed_place-at.ensures.0)
 
 pub set_strides_with-requires-clause-kept : goal.set_strides_with-requires-clause-kept
@@ -86,12 +83,12 @@ set_places-requires g c = omega (arith, c.requires.places, c.set_strides_with.au
 
 pub before-axes-requires : goal.before-axes-requires
 before-axes-requires g c =
-    let many = count_kept c.list_nodes-kept.result c.list_nodes-kept.new.order c.before-order.result.now (omega (arith, c.list_nodes-kept.ensures.within, c.list_nodes-kept.auto.order)) c.before-order.ensures in
+    let many = count_first c.list_nodes-kept.result c.list_nodes-kept.new.order (omega (arith, c.list_nodes-kept.ensures.within, c.list_nodes-kept.auto.order)) c.before-order.ensures in
     omega (arith, many, ap length (c.before-order.ensures ∙ c.list_nodes-kept.ensures.list), c.requires.axes, c.set_axes.auto.axes, c.insert_axis.auto.axes)
 
 pub before-strides-requires : goal.before-strides-requires
 before-strides-requires g c =
-    let many = count_kept c.list_nodes-kept.result c.list_nodes-kept.new.order c.before-order.result.now (omega (arith, c.list_nodes-kept.ensures.within, c.list_nodes-kept.auto.order)) c.before-order.ensures in
+    let many = count_first c.list_nodes-kept.result c.list_nodes-kept.new.order (omega (arith, c.list_nodes-kept.ensures.within, c.list_nodes-kept.auto.order)) c.before-order.ensures in
     let rows = ap (λ l. (length l + 1) * length c.args.slots.now) (c.before-order.ensures ∙ c.list_nodes-kept.ensures.list) in
     omega (arith, ap (λ k. (k + 1) * length c.args.slots.now) many, rows, c.requires.strides, c.set_strides_with.auto.strides)
 
@@ -117,7 +114,7 @@ walk_over-requires-clause-can g c =
     let slots = c.args.slots.now in
     let at = c.summed_place-at.result in
     let is = c.before-order.ensures ∙ c.list_nodes-kept.ensures.list in
-    let many : length c.before-order.result.now ≡ c.list_nodes-kept.result = ap length c.before-order.ensures ∙ length-take-le c.list_nodes-kept.result c.list_nodes-kept.new.order (omega (arith, c.list_nodes-kept.ensures.within)) in
+    let many : length c.before-order.result.now ≡ c.list_nodes-kept.result = count_first c.list_nodes-kept.result c.list_nodes-kept.new.order (omega (arith, c.list_nodes-kept.ensures.within)) c.before-order.ensures in
     let first = ap (λ k. take k c.set_axes.new.axes) (sym many) ∙ c.set_axes.ensures ∙ ap (axes_of (states_in counts) (stride_over counts c.args.scope.now)) is in
     let axes = axes_in_order m.laws m.sizes c.requires.can c.summed_place-at.result c.before-axes.result.now (get_or counts c.args.node 0) (get_or_default counts c.args.node 0 1 c.requires.can.node) (c.before-axes.ensures ∙ c.insert_axis.ensures ∙ ap (with_extra at (let a : Axis = record { states = get_or counts c.args.node 0; out = 0 } in a)) first) in
     let strides = c.before-strides.ensures ∙ ap (λ k. take ((k + 1) * length slots) c.set_strides_with.new.strides) (sym many) ∙ c.set_strides_with.ensures ∙ ap (λ l. stride_rows (stride_row counts slots) (with_extra at c.args.node l)) is in
@@ -130,7 +127,7 @@ returns g c =
     let slots = c.args.slots.now in
     let at = c.summed_place-at.result in
     let is = c.before-order.ensures ∙ c.list_nodes-kept.ensures.list in
-    let many : length c.before-order.result.now ≡ c.list_nodes-kept.result = ap length c.before-order.ensures ∙ length-take-le c.list_nodes-kept.result c.list_nodes-kept.new.order (omega (arith, c.list_nodes-kept.ensures.within)) in
+    let many : length c.before-order.result.now ≡ c.list_nodes-kept.result = count_first c.list_nodes-kept.result c.list_nodes-kept.new.order (omega (arith, c.list_nodes-kept.ensures.within)) c.before-order.ensures in
     let first = ap (λ k. take k c.set_axes.new.axes) (sym many) ∙ c.set_axes.ensures ∙ ap (axes_of (states_in counts) (stride_over counts c.args.scope.now)) is in
     let axes = axes_in_order m.laws m.sizes c.requires.can c.summed_place-at.result c.before-axes.result.now (get_or counts c.args.node 0) (get_or_default counts c.args.node 0 1 c.requires.can.node) (c.before-axes.ensures ∙ c.insert_axis.ensures ∙ ap (with_extra at (let a : Axis = record { states = get_or counts c.args.node 0; out = 0 } in a)) first) in
     let strides = c.before-strides.ensures ∙ ap (λ k. take ((k + 1) * length slots) c.set_strides_with.new.strides) (sym many) ∙ c.set_strides_with.ensures ∙ ap (λ l. stride_rows (stride_row counts slots) (with_extra at c.args.node l)) is in

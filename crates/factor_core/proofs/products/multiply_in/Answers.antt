@@ -1,15 +1,12 @@
-use Rattle.std.proofs.Common.{ℕ, List, ◌≡◌, ◌+◌, ◌*◌, ◌<◌, length, take, sym, ap, ◌∙◌, arith}
+use Rattle.std.proofs.Common.{◌≡◌, ◌+◌, ◌*◌, length, take, sym, ap, ◌∙◌, arith}
 use Rattle.std.proofs.lemmas.List.{length-take-le}
 use Rattle.node_sets.specs.Sets.{holds}
 use Rattle.factor_core.specs.Scopes.{united}
 use Rattle.factor_core.specs.Tables.{states_in, stride_over, axes_of, stride_rows, stride_row}
 use Rattle.factor_core.proofs.ProductWalk.{can_begin, multiplies_with}
+use Rattle.factor_core.proofs.Parts.{count_first}
 use Rattle.factor_core.proofs.StrideRows.{listed_cong}
 use Rattle.factor_core.proofs.products.multiply_in.Goals as goal
-
--- so many nodes are kept
-count_kept : (k : ℕ) (order kept : List ℕ) → k < length order → kept ≡ take k order → length kept ≡ k
-count_kept k order kept l e = ap length e ∙ length-take-le k order (omega arith)
 
 pub list_nodes-n-requires-clause-few : goal.list_nodes-n-requires-clause-few
 list_nodes-n-requires-clause-few g c = c.requires.can.are_counts.few
@@ -57,12 +54,12 @@ set_places-requires g c = omega (arith, c.requires.places, c.set_strides.auto.si
 
 pub before-axes-requires : goal.before-axes-requires
 before-axes-requires g c =
-    let many = count_kept c.list_nodes-n.result c.list_nodes-n.new.order c.before-order.result.now (omega (arith, c.list_nodes-n.ensures.within, c.list_nodes-n.auto.order)) c.before-order.ensures in
+    let many = count_first c.list_nodes-n.result c.list_nodes-n.new.order (omega (arith, c.list_nodes-n.ensures.within, c.list_nodes-n.auto.order)) c.before-order.ensures in
     omega (arith, many, ap length (c.before-order.ensures ∙ c.list_nodes-n.ensures.list), c.requires.axes, c.set_axes.auto.axes)
 
 pub before-strides-requires : goal.before-strides-requires
 before-strides-requires g c =
-    let many = count_kept c.list_nodes-n.result c.list_nodes-n.new.order c.before-order.result.now (omega (arith, c.list_nodes-n.ensures.within, c.list_nodes-n.auto.order)) c.before-order.ensures in
+    let many = count_first c.list_nodes-n.result c.list_nodes-n.new.order (omega (arith, c.list_nodes-n.ensures.within, c.list_nodes-n.auto.order)) c.before-order.ensures in
     let rows = ap (λ l. (length l + 1) * length c.args.slots.now) (c.before-order.ensures ∙ c.list_nodes-n.ensures.list) in
     omega (arith, ap (λ k. (k + 1) * length c.args.slots.now) many, rows, c.requires.strides, c.set_strides.auto.strides)
 
@@ -78,7 +75,7 @@ walk_over-requires-clause-can g c =
     let counts = c.args.counts.now in
     let slots = c.args.slots.now in
     let is = c.before-order.ensures ∙ c.list_nodes-n.ensures.list in
-    let many : length c.before-order.result.now ≡ c.list_nodes-n.result = ap length c.before-order.ensures ∙ length-take-le c.list_nodes-n.result c.list_nodes-n.new.order (omega (arith, c.list_nodes-n.ensures.within, c.list_nodes-n.auto.order)) in
+    let many : length c.before-order.result.now ≡ c.list_nodes-n.result = count_first c.list_nodes-n.result c.list_nodes-n.new.order (omega (arith, c.list_nodes-n.ensures.within, c.list_nodes-n.auto.order)) c.before-order.ensures in
     let axes = c.before-axes.ensures ∙ ap (λ k. take k c.set_axes.new.axes) (sym many) ∙ c.set_axes.ensures ∙ ap (axes_of (states_in counts) (stride_over counts c.args.scope.now)) is in
     let strides = c.before-strides.ensures ∙ ap (λ k. take (k * length slots) c.set_strides.new.strides) (sym many) ∙ c.set_strides.ensures ∙ ap (stride_rows (stride_row counts slots)) is in
     can_begin m.laws m.sizes c.requires.can axes strides c.set_places.ensures
@@ -89,7 +86,7 @@ returns g c =
     let counts = c.args.counts.now in
     let slots = c.args.slots.now in
     let is = c.before-order.ensures ∙ c.list_nodes-n.ensures.list in
-    let many : length c.before-order.result.now ≡ c.list_nodes-n.result = ap length c.before-order.ensures ∙ length-take-le c.list_nodes-n.result c.list_nodes-n.new.order (omega (arith, c.list_nodes-n.ensures.within, c.list_nodes-n.auto.order)) in
+    let many : length c.before-order.result.now ≡ c.list_nodes-n.result = count_first c.list_nodes-n.result c.list_nodes-n.new.order (omega (arith, c.list_nodes-n.ensures.within, c.list_nodes-n.auto.order)) c.before-order.ensures in
     let axes = c.before-axes.ensures ∙ ap (λ k. take k c.set_axes.new.axes) (sym many) ∙ c.set_axes.ensures ∙ ap (axes_of (states_in counts) (stride_over counts c.args.scope.now)) is in
     let strides = c.before-strides.ensures ∙ ap (λ k. take (k * length slots) c.set_strides.new.strides) (sym many) ∙ c.set_strides.ensures ∙ ap (stride_rows (stride_row counts slots)) is in
     multiplies_with m.laws m.sizes c.requires.can axes strides c.set_places.ensures c.walk_over.ensures

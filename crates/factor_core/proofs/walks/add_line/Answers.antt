@@ -61,4 +61,4 @@ pub returns-clause-adds : goal.returns-clause-adds
 returns-clause-adds g c = all_added c.requires c.loop.invariant c.loop-test.false c.loop.auto.counter-end
 
 pub returns-clause-places : goal.returns-clause-places
-returns-clause-places g c = retreated c.requires c.loop.invariant c.loop-test.false c.loop.auto.counter-end c.retreat.auto.places c.retreat.ensures
+returns-clause-places g c = retreated c.requires c.loop.invariant c.loop-test.false c.loop.auto.counter-end {new = c.retreat.new.places} c.retreat.auto.places c.retreat.ensures

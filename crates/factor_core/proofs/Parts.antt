@@ -1,0 +1,26 @@
+-- A list in parts: how many its first items are, and where the cells of its middle part stand.
+use Rattle.std.proofs.Common.{◌≡◌, ◌+◌, ◌-◌, ◌<◌, ◌≤◌, ◌++◌, ℕ, List, length, take, arith, ap, ◌∙◌}
+use Rattle.std.proofs.lemmas.List.{length-take-le, get_or_append_left, get_or-append_right}
+use Rattle.cell_rings.specs.Rings.{Ring}
+use Rattle.cell_rings.specs.Sums.{cell_at}
+use Rattle.node_sets.specs.Sets.{holds}
+use Rattle.node_sets.specs.declared.sets.NodeSet.{NodeSet}
+use Rattle.finite_sums.specs.Sums.{World, InRange}
+use Rattle.factor_core.specs.Tables.{states_in, place_of, size_of}
+use Rattle.factor_core.proofs.Joining.{place_below}
+
+-- so many are the first ones
+pub count_first : {A : Type 0} (k : ℕ) (whole : List A) {first : List A} → k ≤ length whole → first ≡ take k whole → length first ≡ k
+count_first k whole l e = ap length e ∙ length-take-le k whole l
+
+cell_between : {C : Type 0} (r : Ring C) (front middle back : List C) (start p : ℕ) → length front ≡ start → p < length middle → cell_at r (front ++ (middle ++ back)) (start + p) ≡ cell_at r middle p
+cell_between r front middle back start p e h =
+    get_or-append_right front (middle ++ back) start (start + p) r.nought e (omega arith)
+    ∙ ap (λ k. cell_at r (middle ++ back) k) (let d : (start + p) - start ≡ p = omega arith in d)
+    ∙ get_or_append_left middle back r.nought p h
+
+-- a world's cell, where the table of a scope is the middle part
+pub world_between : {C : Type 0} (r : Ring C) (counts : List ℕ) (scope : NodeSet) (whole middle back : List C) {front : List C} (start : ℕ) → start ≤ length whole → front ≡ take start whole → length middle ≡ size_of counts scope → (w : World) → InRange (states_in counts) w → cell_at r (front ++ (middle ++ back)) (start + place_of counts scope w) ≡ cell_at r middle (place_of counts scope w)
+world_between r counts scope whole middle back {front} start l e long w ok =
+    let below : place_of counts scope w < size_of counts scope = place_below (states_in counts) (holds scope) w ok (length counts) 0 in
+    cell_between r front middle back start (place_of counts scope w) (count_first start whole l e) (omega (arith, below, long))
