@@ -22,6 +22,7 @@ use Rattle.maid_model.specs.Worlds.{IsWorld, world_of, worlds_from, first_world,
 use Rattle.finite_sums.specs.Members.{Among}
 use Rattle.maid_model.proofs.Adding.{all_worlds, product_cong, some_rest, weight_in, MassSoFar, mass_start, mass_within, mass_step, HasRoom, room_of, base_some, added_bound}
 use Rattle.finite_sums.proofs.Counts.{true_or_false}
+use Rattle.maid_model.proofs.Below.{utility_is}
 use Rattle.maid_model.proofs.Found.{eqb_no}
 use Rattle.finite_sums.proofs.Members.{range_within}
 use Rattle.maid_model.proofs.Next.{first_is_world}
@@ -80,8 +81,11 @@ pub record LeavesSoFar (nodes : List NodeView) (p : List RuleView) (agent : ℕ)
   pub bound : nat_abs sum ≤ m * greatest_utility nodes
   pub mass : MassSoFar nodes p (length nodes) m xs
 
-module _ (d : DiagramView) (is : IsDiagram d) (p : List RuleView) (prof : IsProfile d.nodes p) (agent : ℕ) (marks : NodeSet) (utilities : MarksUtilities d.nodes marks)
+module _ (d : DiagramView) (is : IsDiagram d) (p : List RuleView) (prof : IsProfile d.nodes p) (agent : ℕ) (marks : NodeSet)
     (marks_are : (v : ℕ) → v < length d.nodes → holds marks v ≡ is_utility_of d.nodes agent v) where
+  utilities : MarksUtilities d.nodes marks
+  utilities v l m = ((utility_is d.nodes agent v).0 (sym (marks_are v l) ∙ m)).0
+
   pub leaves_start : (xs : List ℕ) → xs ≡ first_world (length d.nodes) → LeavesSoFar d.nodes p agent marks (pos 0) xs
   leaves_start xs e = record {
     world = subst (IsWorld (counts_of d.nodes)) (sym e) (first_is_world d.nodes is.graph.has_state);

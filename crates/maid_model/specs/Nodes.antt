@@ -78,7 +78,13 @@ pub record IsOwnedBy (nodes : List NodeView) (v agent : ℕ) : Type 0 where
 abbrev pub agent_of : List NodeView → ℕ → ℕ
 agent_of nodes d = (node_at nodes d).owner
 
--- a utility that the agent owns, alone or with others
+-- v is a utility that the agent owns, alone or with others
+pub record IsUtilityOf (nodes : List NodeView) (agent v : ℕ) : Type 0 where
+  pub within : v < length nodes
+  pub kind : (node_at nodes v).kind ≡ Utility
+  pub owner : Owns nodes agent v
+
+-- the same as a test
 abbrev pub is_utility_of : List NodeView → ℕ → ℕ → Bool
 is_utility_of nodes agent v = is_utility (node_at nodes v).kind && owns nodes agent v
 

@@ -4,7 +4,7 @@ use Rattle.node_sets.specs.declared.sets.NodeSet.{NodeSet}
 use Rattle.node_sets.specs.Sets.{holds, IsIn}
 use Rattle.maid_model.specs.declared.diagrams.Kind.TheVariants.{Utility}
 use Rattle.maid_model.specs.Views.{NodeView, RuleView}
-use Rattle.maid_model.specs.Nodes.{IsDecision, is_utility_of, node_at, numbers_of}
+use Rattle.maid_model.specs.Nodes.{IsDecision, node_at, numbers_of}
 use Rattle.maid_model.specs.Gains.{table_without, weight_without}
 use Rattle.maid_model.specs.Profiles.{no_rule}
 use Rattle.finite_sums.specs.Sums.{World, sum_each}
@@ -36,11 +36,6 @@ marked_utility nodes marks w = sum_each (λ v. marked_value nodes marks v w) (nu
 abbrev pub MarksUtilities : List NodeView → NodeSet → Type 0
 MarksUtilities nodes marks =
     (v : ℕ) → v < length nodes → IsIn marks v → (node_at nodes v).kind ≡ Utility
-
--- exactly the agent's utilities are marked
-abbrev pub MarksUtilitiesOf : List NodeView → ℕ → NodeSet → Type 0
-MarksUtilitiesOf nodes agent marks =
-    (v : ℕ) → v < length nodes → holds marks v ≡ is_utility_of nodes agent v
 
 -- what a world of that weight, given by its states, adds to a sum of gains
 abbrev pub marked_gain : List NodeView → NodeSet → ℕ → List ℕ → ℤ

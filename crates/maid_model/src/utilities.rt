@@ -1,38 +1,42 @@
 //! Sets of utilities: those of an agent, and those below a decision.
 
-ghost use Rattle.std.specs.Prelude.{◌≡◌, ℕ, ◌<◌, ◌↔◌, length};
-ghost use Rattle.node_sets.specs.Sets.{IsIn};
-ghost use Rattle.maid_model.specs.Nodes.{is_utility_of};
+ghost use Rattle.std.specs.Prelude.{◌≡◌, ℕ, ◌<◌, ◌↔◌, IsTrue, length};
+ghost use Rattle.node_sets.specs.Sets.{holds, IsIn};
+ghost use Rattle.maid_model.specs.Diagrams.{IsDiagram};
+ghost use Rattle.maid_model.specs.Nodes.{is_utility_of, IsUtilityOf};
 ghost use Rattle.maid_model.specs.Relevance.{IsGoal};
-ghost use Rattle.maid_model.specs.Private.{MarksUtilities, MarksUtilitiesOf};
 
 use crate::diagrams::{Diagram, Kind};
 use node_sets::{NodeSet, descendants};
 
-/// Whether the node is a utility of the agent.
-fn is_utility_of(diagram: &Diagram, agent: usize, v: usize) -> bool
-    requires { v < length diagram.now.nodes }
-    ensures { result ≡ is_utility_of diagram.now.nodes agent v }
-{
-    match diagram.kind(v) {
-        Kind::Utility => diagram.owns(agent, v),
-        Kind::Chance | Kind::Decision => false,
-    }
-}
-
-/// The utilities of the agent.
-pub(crate) fn utilities_of(diagram: &Diagram, agent: usize) -> NodeSet
-    ensures utilities { MarksUtilities diagram.now.nodes result }
-    ensures known { (v : ℕ) → IsIn result v → v < length diagram.now.nodes }
-    ensures marks { MarksUtilitiesOf diagram.now.nodes agent result }
-{
-    let mut utilities = NodeSet::empty();
-    for v in 0..diagram.count() {
-        if is_utility_of(diagram, agent, v) {
-            utilities.insert(v);
+impl Diagram {
+    /// Whether the node is a utility of the agent: one that the agent owns, alone or with others.
+    pub fn is_utility_of(&self, agent: usize, v: usize) -> bool
+        requires { v < length self.now.nodes }
+        ensures test { result ≡ is_utility_of self.now.nodes agent v }
+        ensures utility { IsTrue result ↔ IsUtilityOf self.now.nodes agent v }
+    {
+        match self.kind(v) {
+            Kind::Utility => self.owns(agent, v),
+            Kind::Chance | Kind::Decision => false,
         }
     }
-    utilities
+
+    /// The utilities of the agent. It takes no memory.
+    pub fn utilities_of(&self, agent: usize) -> NodeSet
+        ensures utilities { (v : ℕ) → IsIn result v ↔ IsUtilityOf self.now.nodes agent v }
+        ensures tested { (v : ℕ) → v < length self.now.nodes
+            → holds result v ≡ is_utility_of self.now.nodes agent v }
+        ensures diagram { IsDiagram self.now }
+    {
+        let mut utilities = NodeSet::empty();
+        for v in 0..self.count() {
+            if self.is_utility_of(agent, v) {
+                utilities.insert(v);
+            }
+        }
+        utilities
+    }
 }
 
 /// The goals of the decision: the utilities of its agent that descend from it.
@@ -43,5 +47,5 @@ pub fn goals_of(diagram: &Diagram, decision: usize) -> NodeSet
     let agent = diagram.agent_of(decision);
     let mut below = descendants(diagram, NodeSet::of(decision));
     below.remove(decision);
-    below.intersection(&utilities_of(diagram, agent))
+    below.intersection(&diagram.utilities_of(agent))
 }

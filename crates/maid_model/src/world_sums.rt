@@ -11,7 +11,7 @@ ghost use Rattle.maid_model.specs.Bounds.{HasRoomForBase, HasRoomForWeight};
 
 use crate::diagrams::Diagram;
 use crate::profiles::Profile;
-use crate::utilities::{goals_of, utilities_of};
+use crate::utilities::goals_of;
 use crate::weights::{rule_places, world_weight};
 use crate::worlds::World;
 use node_sets::NodeSet;
@@ -28,7 +28,7 @@ pub fn leaf_sum(diagram: &Diagram, profile: &Profile, agent: usize, world: &mut 
     ensures again { world.new ≡ world.old }
 {
     let places = rule_places(diagram, profile);
-    let marks = utilities_of(diagram, agent);
+    let marks = diagram.utilities_of(agent);
     let nothing = diagram.count();
     let mut sum: i128 = 0;
     'worlds: loop {

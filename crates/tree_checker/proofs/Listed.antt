@@ -1,5 +1,5 @@
 -- Lists of those of the first numbers that pass a test, and the goals of a decision among them.
-use Rattle.std.proofs.Common.{◌≡◌, ◌∙◌, ◌↔◌, ℕ, ◌<◌, Bool, true, false, ◌&&◌, cond, List, [], ◌∷◌, filter, length, sym, ap, refl, inl, inr}
+use Rattle.std.proofs.Common.{◌≡◌, ◌↔◌, ℕ, ◌<◌, Bool, true, false, ◌&&◌, cond, List, [], ◌∷◌, filter, length, sym, ap, refl, inl, inr}
 use Rattle.finite_sums.specs.Members.{Among}
 use Rattle.finite_sums.proofs.Members.{any_is}
 use Rattle.node_sets.specs.declared.sets.NodeSet.{NodeSet}
@@ -8,7 +8,7 @@ use Rattle.maid_model.specs.declared.diagrams.Kind.{Kind}
 use Rattle.maid_model.specs.declared.diagrams.Kind.TheVariants.{Chance, Decision, Utility}
 use Rattle.maid_model.specs.Graph.{descends}
 use Rattle.maid_model.specs.Laws.{TestsDescent}
-use Rattle.maid_model.specs.Nodes.{agent_of, is_utility, is_utility_of, node_at, numbers_of, owners_of, owns, IsOwnedBy}
+use Rattle.maid_model.specs.Nodes.{agent_of, is_utility, is_utility_of, node_at, numbers_of, owners_of, owns}
 use Rattle.maid_model.specs.Relevance.{IsGoal}
 use Rattle.maid_model.specs.Scopes.{goals_of}
 use Rattle.maid_model.specs.Views.{NodeView}
@@ -21,7 +21,7 @@ filter_same p q [] h = refl
 filter_same p q (x ∷ xs) h = (λ i. cond (h x (inl refl) i) (x ∷ filter_same p q xs (λ y m. h y (inr m)) i) (filter_same p q xs (λ y m. h y (inr m)) i))
 
 -- tests of one fact
-pub same_test : (b c : Bool) → (b ≡ true → c ≡ true) → (c ≡ true → b ≡ true) → b ≡ c
+same_test : (b c : Bool) → (b ≡ true → c ≡ true) → (c ≡ true → b ≡ true) → b ≡ c
 same_test true c f g = sym (f refl)
 same_test false true f g = g refl
 same_test false false f g = refl
@@ -45,9 +45,3 @@ module _ (nodes : List NodeView) (d : ℕ) (set : NodeSet) (marks : (v : ℕ) �
   pub goals_listed : filter (holds set) (numbers_of nodes) ≡ goals_of nodes d
   goals_listed = filter_same (holds set) (λ u. is_utility_of nodes (agent_of nodes d) u && descends nodes d u) (numbers_of nodes)
       (λ u m. same_test (holds set u) (is_utility_of nodes (agent_of nodes d) u && descends nodes d u) (λ e. passes u ((marks u).0 e)) (λ e. (marks u).1 (goal_of u (numbered nodes u m) e)))
-
--- ---- the utilities of an agent
-pub utility_owned : (nodes : List NodeView) (v agent : ℕ) → v < length nodes → (node_at nodes v).kind ≡ Utility → (b : Bool) → (b ≡ true ↔ IsOwnedBy nodes v agent) → b ≡ is_utility_of nodes agent v
-utility_owned nodes v agent l kind b told =
-    same_test b (owns nodes agent v) (λ t. (any_is agent (owners_of nodes v)).1 (told.0 t).owner) (λ t. told.1 (record { within = l; kind = inr kind; owner = (any_is agent (owners_of nodes v)).0 t }))
-    ∙ ap (λ x. x && owns nodes agent v) (sym (ap is_utility kind))

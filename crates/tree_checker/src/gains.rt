@@ -4,8 +4,6 @@ ghost use Rattle.std.specs.Prelude.{◌≡◌, ◌<◌, ◌≤◌, ◌↔◌, Al
 ghost use Rattle.maid_model.specs.Answers.{IsReduced};
 ghost use Rattle.maid_model.specs.Diagrams.{greatest_number};
 ghost use Rattle.maid_model.specs.Gains.{gain_of, mass};
-ghost use Rattle.maid_model.specs.Nodes.{is_utility_of};
-ghost use Rattle.maid_model.specs.Private.{MarksUtilities, MarksUtilitiesOf};
 ghost use Rattle.maid_model.specs.Profiles.{IsProfile};
 ghost use Rattle.maid_model.specs.Scopes.{KeepsScopedBounds, utilities_for};
 ghost use Rattle.maid_model.specs.Tables.{weight_total};
@@ -17,19 +15,7 @@ use crate::parts::stage_of;
 use crate::rows::{is_fraction, scale_of};
 use crate::walks::cells_over;
 use maid_model::{Diagram, Kind, Profile, Ratio, profile_has_rules};
-use node_sets::NodeSet;
 use std::alloc::{AllocError, Global};
-
-/// Whether the node is a utility of the agent.
-fn is_utility_of(diagram: &Diagram, agent: usize, v: usize) -> bool
-    requires { v < length diagram.now.nodes }
-    ensures { result ≡ is_utility_of diagram.now.nodes agent v }
-{
-    match diagram.kind(v) {
-        Kind::Utility => diagram.owns(agent, v),
-        Kind::Chance | Kind::Decision => false,
-    }
-}
 
 /// The utilities of the agent, in text order.
 ///
@@ -45,7 +31,7 @@ pub fn utilities_of(
 {
     let mut list = Vec::new(alloc);
     for v in 0..diagram.count() {
-        if is_utility_of(diagram, agent, v) {
+        if diagram.is_utility_of(agent, v) {
             list.push(v)?;
         }
     }
@@ -80,20 +66,6 @@ pub fn mass_of(diagram: &Diagram, profile: &Profile) -> u128
     mass
 }
 
-/// The set of the agent's utilities.
-fn marks_of(diagram: &Diagram, agent: usize) -> NodeSet
-    ensures utilities { MarksUtilities diagram.now.nodes result }
-    ensures marks { MarksUtilitiesOf diagram.now.nodes agent result }
-{
-    let mut marks = NodeSet::empty();
-    for v in 0..diagram.count() {
-        if is_utility_of(diagram, agent, v) {
-            marks.insert(v);
-        }
-    }
-    marks
-}
-
 /// The sum, over all worlds of the diagram, of the world's weight under the profile times the agent's utilities. It lists
 /// the factors of each node, in as much memory as the tables and the rules take, and goes down the nodes once for each
 /// choice of states of those before, but for what has no weight.
@@ -112,7 +84,7 @@ pub fn gain_over(
     ensures sum { IfOk result (λ sum. sum ≡ gain_of diagram.now.nodes profile.now agent) }
     ensures small { IfOk result (λ sum. nat_abs sum ≤ greatest_number) }
 {
-    let marks = marks_of(diagram, agent);
+    let marks = diagram.utilities_of(agent);
     let sums = cells_over(alloc, diagram, profile, &marks, diagram.count())?;
     Ok(sums.gains[0])
 }

@@ -1,32 +1,30 @@
 -- The set of an agent's scope where a node's state is given has the members that its definition lists.
 use Rattle.std.proofs.Common.{◌≡◌, ◌⊎◌, ◌↔◌, ℕ, ◌<◌, List, ◌∷◌, Contains, length, sym, subst, inl, inr}
 use Rattle.node_sets.specs.declared.sets.NodeSet.{NodeSet}
-use Rattle.node_sets.specs.Sets.{IsIn}
-use Rattle.finite_sums.proofs.Lists.{among_filter}
-use Rattle.finite_sums.proofs.Members.{among_from_contains, contains_from_among, filter_has}
+use Rattle.node_sets.specs.Sets.{holds, IsIn}
+use Rattle.finite_sums.proofs.Members.{among_from_contains, contains_from_among}
 use Rattle.maid_model.specs.Views.{NodeView}
 use Rattle.maid_model.specs.Graph.{Arc, IsPath, IsGraph}
-use Rattle.maid_model.specs.Nodes.{numbers_of, is_utility_of}
+use Rattle.maid_model.specs.Nodes.{IsUtilityOf, is_utility_of}
 use Rattle.maid_model.specs.Scopes.{utilities_for}
-use Rattle.maid_laws.proofs.Rearranged.{number, numbered}
 use Rattle.part_laws.specs.PartLaws.{AncestorsAreClosed}
 use Rattle.part_laws.proofs.ScopeLaws.{utilities_inside}
 use Rattle.weight_scale.specs.Given.{scope_given}
-use Rattle.weight_scale.specs.ScopePlaces.{IsUtilityFor}
-use Rattle.weight_scale.proofs.ScopeMembers.{utility_of_test, test_of_utility}
+use Rattle.weight_scale.proofs.ScopeMembers.{utility_listed, utility_unlisted}
 
-module _ (nodes : List NodeView) (x agent : ℕ) (g : IsGraph nodes) (l : x < length nodes) (set : NodeSet) (is : (u : ℕ) → IsIn set u ↔ IsUtilityFor nodes agent u) where
+module _ (nodes : List NodeView) (x agent : ℕ) (g : IsGraph nodes) (l : x < length nodes) (set : NodeSet) (is : (u : ℕ) → IsIn set u ↔ IsUtilityOf nodes agent u)
+    (tested : (u : ℕ) → u < length nodes → holds set u ≡ is_utility_of nodes agent u) where
   abbrev targets : List ℕ
   targets = x ∷ utilities_for nodes agent
 
   listed : (u : ℕ) → IsIn set u ⊎ (u ≡ x) → Contains targets u
-  listed u (inl t) = let k = (is u).0 t in contains_from_among targets u (inr (filter_has (is_utility_of nodes agent) u (numbers_of nodes) (number nodes u k.within) (test_of_utility nodes agent u k)))
+  listed u (inl t) = contains_from_among targets u (inr (utility_listed nodes agent set is tested u t))
   listed u (inr e) = contains_from_among targets u (inl e)
 
   unlisted : (u : ℕ) → Contains targets u → IsIn set u ⊎ (u ≡ x)
   unlisted u c = elim (among_from_contains targets u c) [
     | inl e ↦ inr e
-    | inr m ↦ let r = among_filter (is_utility_of nodes agent) u (numbers_of nodes) m in inl ((is u).1 (utility_of_test nodes agent u (numbered nodes u r.0) r.1))
+    | inr m ↦ inl (utility_unlisted nodes agent set is tested u m)
   ]
 
   inside : (u : ℕ) → Contains targets u → u < length nodes

@@ -4,19 +4,18 @@ use Rattle.node_sets.specs.declared.sets.NodeSet.{NodeSet}
 use Rattle.node_sets.specs.Sets.{holds, IsIn}
 use Rattle.finite_sums.specs.Members.{Among}
 use Rattle.finite_sums.proofs.Lists.{among_filter}
-use Rattle.finite_sums.proofs.Members.{among_from_contains, any_is, contains_from_among, filter_has}
+use Rattle.finite_sums.proofs.Members.{among_from_contains, contains_from_among, filter_has}
 use Rattle.maid_model.specs.Views.{NodeView}
 use Rattle.maid_model.specs.Graph.{Arc, IsPath, Here, Along, IsGraph, descends}
-use Rattle.maid_model.specs.Nodes.{IsDecision, node_at, numbers_of, is_utility, is_utility_of, owns, owners_of, agent_of}
+use Rattle.maid_model.specs.Nodes.{IsDecision, IsUtilityOf, node_at, numbers_of, is_utility, is_utility_of, owns, agent_of}
 use Rattle.maid_model.specs.Relevance.{IsGoal}
 use Rattle.maid_model.specs.Scopes.{IsInScope, goals_of, scope_for, scope_of, utilities_for}
 use Rattle.maid_laws.proofs.Paths.{path_further}
-use Rattle.maid_laws.proofs.Proportions.{kind_of_utility}
 use Rattle.maid_laws.proofs.Rearranged.{number, numbered}
 use Rattle.part_laws.proofs.PartLaws.{kept_path, path_kept}
 use Rattle.part_laws.proofs.PartSums.{and_both}
 use Rattle.part_laws.proofs.ScopeLaws.{goal_listed, scope_has, scope_path, target_of, utilities_inside}
-use Rattle.weight_scale.specs.ScopePlaces.{members_of, IsUtilityFor}
+use Rattle.weight_scale.specs.ScopePlaces.{members_of}
 
 same_test : (a b : Bool) → (a ≡ true → b ≡ true) → (b ≡ true → a ≡ true) → a ≡ b
 same_test true b f g = sym (f refl)
@@ -38,31 +37,23 @@ members_are nodes q set h = same_filter (holds set) q (numbers_of nodes) (λ v m
 ))
 
 -- ---- the utilities of an agent
-module _ (nodes : List NodeView) (agent : ℕ) where
-  pub utility_of_test : (u : ℕ) → u < length nodes → is_utility_of nodes agent u ≡ true → IsUtilityFor nodes agent u
-  utility_of_test u l t =
-      let b = and_both (is_utility (node_at nodes u).kind) (owns nodes agent u) t in
-      record { within = l; kind = kind_of_utility (node_at nodes u).kind b.0; owner = (any_is agent (owners_of nodes u)).0 b.1 }
+module _ (nodes : List NodeView) (agent : ℕ) (set : NodeSet) (is : (u : ℕ) → IsIn set u ↔ IsUtilityOf nodes agent u)
+    (tested : (u : ℕ) → u < length nodes → holds set u ≡ is_utility_of nodes agent u) where
+  pub utilities_are : members_of nodes set ≡ utilities_for nodes agent
+  utilities_are = same_filter (holds set) (is_utility_of nodes agent) (numbers_of nodes) (λ u m. let e = tested u (numbered nodes u m) in ((λ t. sym e ∙ t), (λ t. e ∙ t)))
 
-  pub test_of_utility : (u : ℕ) → IsUtilityFor nodes agent u → is_utility_of nodes agent u ≡ true
-  test_of_utility u h = λ i. ap is_utility h.kind i && (any_is agent (owners_of nodes u)).1 h.owner i
+  pub utility_listed : (u : ℕ) → IsIn set u → Among u (utilities_for nodes agent)
+  utility_listed u t = let l = ((is u).0 t).within in filter_has (is_utility_of nodes agent) u (numbers_of nodes) (number nodes u l) (sym (tested u l) ∙ t)
 
-  module _ (set : NodeSet) (is : (u : ℕ) → IsIn set u ↔ IsUtilityFor nodes agent u) where
-    pub utilities_are : members_of nodes set ≡ utilities_for nodes agent
-    utilities_are = same_filter (holds set) (is_utility_of nodes agent) (numbers_of nodes) (λ u m. ((λ t. test_of_utility u ((is u).0 t)), (λ t. (is u).1 (utility_of_test u (numbered nodes u m) t))))
+  pub utility_unlisted : (u : ℕ) → Among u (utilities_for nodes agent) → IsIn set u
+  utility_unlisted u m = let r = among_filter (is_utility_of nodes agent) u (numbers_of nodes) m in tested u (numbered nodes u r.0) ∙ r.1
 
-    -- those from which a path leads to one of them
-    pub agents_ancestors : IsGraph nodes → (scope : NodeSet) → ((v : ℕ) → IsIn scope v ↔ ((to : ℕ) × IsIn set to × IsPath (Arc nodes) v to)) → (v : ℕ) → IsIn scope v ↔ Contains (scope_for nodes agent) v
-    agents_ancestors g scope h v = (
-      (λ t. let r = (h v).0 t in contains_from_among (scope_for nodes agent) v (path_kept nodes (utilities_for nodes agent) g (utilities_inside nodes g agent) r.0 v (listed r.0 r.1) r.2)),
-      (λ c. let r = kept_path nodes (utilities_for nodes agent) g (utilities_inside nodes g agent) v (among_from_contains (scope_for nodes agent) v c) in (h v).1 (r.0, unlisted r.0 r.1, r.2)),
-    )
-      where
-        listed : (u : ℕ) → IsIn set u → Among u (utilities_for nodes agent)
-        listed u t = let k = (is u).0 t in filter_has (is_utility_of nodes agent) u (numbers_of nodes) (number nodes u k.within) (test_of_utility u k)
-
-        unlisted : (u : ℕ) → Among u (utilities_for nodes agent) → IsIn set u
-        unlisted u m = let r = among_filter (is_utility_of nodes agent) u (numbers_of nodes) m in (is u).1 (utility_of_test u (numbered nodes u r.0) r.1)
+  -- those from which a path leads to one of them
+  pub agents_ancestors : IsGraph nodes → (scope : NodeSet) → ((v : ℕ) → IsIn scope v ↔ ((to : ℕ) × IsIn set to × IsPath (Arc nodes) v to)) → (v : ℕ) → IsIn scope v ↔ Contains (scope_for nodes agent) v
+  agents_ancestors g scope h v = (
+    (λ t. let r = (h v).0 t in contains_from_among (scope_for nodes agent) v (path_kept nodes (utilities_for nodes agent) g (utilities_inside nodes g agent) r.0 v (utility_listed r.0 r.1) r.2)),
+    (λ c. let r = kept_path nodes (utilities_for nodes agent) g (utilities_inside nodes g agent) v (among_from_contains (scope_for nodes agent) v c) in (h v).1 (r.0, utility_unlisted r.0 r.1, r.2)),
+  )
 
 -- ---- the goals of a decision
 module _ (nodes : List NodeView) (g : IsGraph nodes) (d : ℕ) (is : IsDecision nodes d) (set : NodeSet) (goals : (u : ℕ) → IsIn set u ↔ IsGoal nodes d u) where

@@ -1,11 +1,10 @@
 -- What the steps of the search for the bound's place promise one another.
-use Rattle.std.specs.Prelude.{◌≡◌, ℕ, ◌<◌, ◌≤◌, ◌*◌, ◌^◌, max, List, length, filter, Option, MatchOption, if◌then◌else◌}
+use Rattle.std.specs.Prelude.{◌≡◌, ℕ, ◌<◌, ◌≤◌, ◌*◌, ◌^◌, max, List, filter, Option, MatchOption, if◌then◌else◌}
 use Rattle.node_sets.specs.declared.sets.NodeSet.{NodeSet}
 use Rattle.node_sets.specs.Sets.{holds}
 use Rattle.finite_sums.specs.Sums.{nat_product_over}
-use Rattle.maid_model.specs.declared.diagrams.Kind.TheVariants.{Utility}
 use Rattle.maid_model.specs.Views.{NodeView, DiagramView}
-use Rattle.maid_model.specs.Nodes.{IsDecision, Owns, node_at, numbers_of}
+use Rattle.maid_model.specs.Nodes.{IsDecision, node_at, numbers_of}
 use Rattle.maid_model.specs.Bounds.{bound_factor}
 use Rattle.maid_model.specs.Gains.{greatest_abs}
 use Rattle.maid_model.specs.Diagrams.{greatest_number}
@@ -19,12 +18,6 @@ use Rattle.weight_scale.specs.declared.weight_bound.BoundPlace.TheVariants.{With
 -- the nodes that the set holds, in text order
 abbrev pub members_of : List NodeView → NodeSet → List ℕ
 members_of nodes set = filter (holds set) (numbers_of nodes)
-
--- u is a utility of the agent
-pub record IsUtilityFor (nodes : List NodeView) (agent u : ℕ) : Type 0 where
-  pub within : u < length nodes
-  pub kind : (node_at nodes u).kind ≡ Utility
-  pub owner : Owns nodes agent u
 
 -- with what a node counts in a product
 abbrev pub factor_by : Counted → List NodeView → ℕ → ℕ

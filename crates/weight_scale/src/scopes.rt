@@ -2,14 +2,13 @@
 
 ghost use Rattle.std.specs.Prelude.{◌≡◌, ℕ, ◌<◌, ◌↔◌, length, Contains, IsTrue};
 ghost use Rattle.node_sets.specs.Sets.{IsIn};
-ghost use Rattle.maid_model.specs.Diagrams.{IsDiagram};
 ghost use Rattle.maid_model.specs.Gains.{greatest_abs};
 ghost use Rattle.maid_model.specs.Nodes.{IsDecision};
 ghost use Rattle.maid_model.specs.Relevance.{IsGoal};
 ghost use Rattle.maid_model.specs.Scopes.{scope_for, scope_of};
 ghost use Rattle.weight_scale.specs.Given.{IsPlaceGiven, scope_given};
 ghost use Rattle.weight_scale.specs.Range.{IsWithinRange};
-ghost use Rattle.weight_scale.specs.ScopePlaces.{factor_in, greatest_in, greatest_sum, IsUtilityFor, IsScopeIfDecision, IsScopeFor, IsPlaceIn, HasRoomInScope};
+ghost use Rattle.weight_scale.specs.ScopePlaces.{factor_in, greatest_in, greatest_sum, IsScopeIfDecision, IsScopeFor, IsPlaceIn, HasRoomInScope};
 
 use crate::weight_bound::BoundPlace;
 use maid_model::{Diagram, GREATEST_NUMBER, Kind, goals_of};
@@ -30,29 +29,6 @@ pub(crate) struct Scope {
     counted: Counted,
     nodes: NodeSet,
     utilities: NodeSet,
-}
-
-fn is_utility_of(diagram: &Diagram, agent: usize, v: usize) -> bool
-    requires { v < length diagram.now.nodes }
-    ensures { IsTrue result ↔ IsUtilityFor diagram.now.nodes agent v }
-{
-    match diagram.kind(v) {
-        Kind::Utility => diagram.owns(agent, v),
-        Kind::Chance | Kind::Decision => false,
-    }
-}
-
-fn utilities_of(diagram: &Diagram, agent: usize) -> NodeSet
-    ensures utilities { (v : ℕ) → IsIn result v ↔ IsUtilityFor diagram.now.nodes agent v }
-    ensures diagram { IsDiagram diagram.now }
-{
-    let mut utilities = NodeSet::empty();
-    for v in 0..diagram.count() {
-        if is_utility_of(diagram, agent, v) {
-            utilities.insert(v);
-        }
-    }
-    utilities
 }
 
 /// The scope of a decision: the nodes from which a path of nought or more arcs leads to it, or to a utility of its agent
@@ -84,7 +60,7 @@ fn scope_of_goals(diagram: &Diagram, decision: usize, goals: NodeSet) -> NodeSet
 pub fn agent_scope(diagram: &Diagram, agent: usize) -> NodeSet
     ensures { (v : ℕ) → IsIn result v ↔ Contains (scope_for diagram.now.nodes agent) v }
 {
-    ancestors(diagram, utilities_of(diagram, agent))
+    ancestors(diagram, diagram.utilities_of(agent))
 }
 
 /// The scope of an agent where a node's state is given: the nodes from which a path of nought or more arcs leads to the
@@ -94,7 +70,7 @@ pub fn scope_given(diagram: &Diagram, node: usize, agent: usize) -> NodeSet
     ensures { (v : ℕ) → IsIn result v ↔ Contains (scope_given diagram.now.nodes node agent) v }
 {
     parts_are_diagrams();
-    let mut ends = utilities_of(diagram, agent);
+    let mut ends = diagram.utilities_of(agent);
     ends.insert(node);
     ancestors(diagram, ends)
 }
@@ -121,7 +97,7 @@ pub(crate) fn scope_of(diagram: &Diagram, v: usize) -> Option<Scope>
 pub(crate) fn scope_for(diagram: &Diagram, agent: usize) -> Scope
     ensures { IsScopeFor diagram.now.nodes agent result }
 {
-    let utilities = utilities_of(diagram, agent);
+    let utilities = diagram.utilities_of(agent);
     Scope {
         counted: Counted::ChanceAlone,
         nodes: ancestors(diagram, utilities),

@@ -16,19 +16,19 @@ cells_over-requires-clause-fits c =
 
 pub returns-clause-sum : goal.returns-clause-sum
 returns-clause-sum c =
-    let g = first_gain c.args.diagram.now c.count.ensures.diagram c.args.profile.now c.args.agent c.marks_of-marks.result c.in_ok-sums.sums.gains.items c.in_ok-sums.sums.masses.items c.marks_of-marks.ensures.marks c.count.result c.count.ensures.count c.in_ok-sums.ensures c.index.result.now c.index.ensures in
+    let g = first_gain c.args.diagram.now c.count.ensures.diagram c.args.profile.now c.args.agent c.utilities_of-marks.result c.in_ok-sums.sums.gains.items c.in_ok-sums.sums.masses.items c.utilities_of-marks.ensures.tested c.count.result c.count.ensures.count c.in_ok-sums.ensures c.index.result.now c.index.ensures in
     to_z-of_z w128 c.index.result.now (small_fits c.index.result.now g.1) ∙ g.0
 
 pub returns-clause-small : goal.returns-clause-small
 returns-clause-small c =
-    let g = first_gain c.args.diagram.now c.count.ensures.diagram c.args.profile.now c.args.agent c.marks_of-marks.result c.in_ok-sums.sums.gains.items c.in_ok-sums.sums.masses.items c.marks_of-marks.ensures.marks c.count.result c.count.ensures.count c.in_ok-sums.ensures c.index.result.now c.index.ensures in
+    let g = first_gain c.args.diagram.now c.count.ensures.diagram c.args.profile.now c.args.agent c.utilities_of-marks.result c.in_ok-sums.sums.gains.items c.in_ok-sums.sums.masses.items c.utilities_of-marks.ensures.tested c.count.result c.count.ensures.count c.in_ok-sums.ensures c.index.result.now c.index.ensures in
     subst (λ z. nat_abs z ≤ greatest_number) (sym (to_z-of_z w128 c.index.result.now (small_fits c.index.result.now g.1))) g.1
 
 pub cells_over-requires-clause-profile : goal.cells_over-requires-clause-profile
 cells_over-requires-clause-profile c = c.requires.profile
 
 pub cells_over-requires-clause-marks : goal.cells_over-requires-clause-marks
-cells_over-requires-clause-marks c = c.marks_of-marks.ensures.utilities
+cells_over-requires-clause-marks c v l m = ((c.utilities_of-marks.ensures.utilities v).0 m).kind
 
 pub cells_over-requires-clause-decision : goal.cells_over-requires-clause-decision
 cells_over-requires-clause-decision c = omega (arith, c.count.ensures.count)

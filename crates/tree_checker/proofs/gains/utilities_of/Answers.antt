@@ -7,6 +7,6 @@ use Rattle.tree_checker.proofs.gains.utilities_of.Goals.{then-is_utility_of+in_o
 pub loop-v-preserved : goal.loop-v-preserved
 loop-v-preserved c =
     elim c.if-is_utility_of.branch [
-      | then-is_utility_of+in_ok-push w ↦ cc (filter_yes (is_utility_of c.args.diagram.now.nodes c.args.agent) c.loop-v.v (sym c.is_utility_of.ensures ∙ w.if-is_utility_of.true), w.in_ok-push.ensures.items)
-      | else-is_utility_of w ↦ cc (filter_no (is_utility_of c.args.diagram.now.nodes c.args.agent) c.loop-v.v (sym c.is_utility_of.ensures ∙ w.if-is_utility_of.false))
+      | then-is_utility_of+in_ok-push w ↦ cc (filter_yes (is_utility_of c.args.diagram.now.nodes c.args.agent) c.loop-v.v (sym c.is_utility_of.ensures.test ∙ w.if-is_utility_of.true), w.in_ok-push.ensures.items)
+      | else-is_utility_of w ↦ cc (filter_no (is_utility_of c.args.diagram.now.nodes c.args.agent) c.loop-v.v (sym c.is_utility_of.ensures.test ∙ w.if-is_utility_of.false))
     ]

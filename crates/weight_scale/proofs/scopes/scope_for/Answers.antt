@@ -9,6 +9,6 @@ returns c =
     let nodes = c.args.diagram.now.nodes in
     record {
       counts = refl;
-      members_are = members_are nodes (leads_to nodes (utilities_for nodes c.args.agent)) c.ancestors.result (agents_ancestors nodes c.args.agent c.utilities_of-utilities.result c.utilities_of-utilities.ensures.utilities c.utilities_of-utilities.ensures.diagram.graph c.ancestors.result c.ancestors.ensures);
-      utilities_are = utilities_are nodes c.args.agent c.utilities_of-utilities.result c.utilities_of-utilities.ensures.utilities;
+      members_are = members_are nodes (leads_to nodes (utilities_for nodes c.args.agent)) c.ancestors.result (agents_ancestors nodes c.args.agent c.utilities_of-utilities.result c.utilities_of-utilities.ensures.utilities c.utilities_of-utilities.ensures.tested c.utilities_of-utilities.ensures.diagram.graph c.ancestors.result c.ancestors.ensures);
+      utilities_are = utilities_are nodes c.args.agent c.utilities_of-utilities.result c.utilities_of-utilities.ensures.utilities c.utilities_of-utilities.ensures.tested;
     }
