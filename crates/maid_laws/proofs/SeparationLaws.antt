@@ -16,7 +16,6 @@ use Rattle.finite_sums.proofs.Lists.{among_filter, product_over-shuffled, sum_ov
 use Rattle.finite_sums.proofs.Sums.{sum_below_cong, sum_over_cong, with_same, with_other}
 use Rattle.finite_sums.specs.Members.{Avoids}
 use Rattle.maid_laws.specs.Separation.{IsUtility, IsFixedBy, Matters, HasWalk, LooksAt, SharedNodeJoins, IsSplit, SplitExists, agrees_at_fixed, total_without, product_without, SumsSeparate}
-use Rattle.maid_laws.specs.Sums.{Overlooks}
 use Rattle.maid_laws.proofs.Booleans.{eqb_yes, eqb_no, eqb_same, not_both, all_at, at_all}
 use Rattle.maid_laws.proofs.Basis.{Setup, Tells, tells_true}
 use Rattle.maid_laws.proofs.Collapse.{one_if, one_if-cond, agree, Apart}
@@ -34,7 +33,7 @@ use Rattle.maid_laws.proofs.Relies.{no_utility_child, walk_of_steps, steps_of_wa
 use Rattle.maid_laws.proofs.TwoSums.{live_in_F, sum_separated}
 use Rattle.maid_laws.proofs.Signs.{pos_product}
 use Rattle.maid_laws.proofs.Tied.{tables_of}
-use Rattle.maid_laws.proofs.TotalLaws.{ignored, has_total}
+use Rattle.maid_laws.proofs.TotalLaws.{has_total}
 
 -- fixed nodes can be told
 fixed_dec : (fixed : ℕ → Bool) (x : ℕ) → Dec (fixed x ≡ true)
@@ -104,7 +103,7 @@ sum_from count (v ∷ vs) f w x h =
 
 module _ (nodes : List NodeView) (p : List RuleView) (d : ℕ) (fixed : ℕ → Bool) (goal : ℕ) (matters joined : ℕ → Bool) (f : World → ℤ) (q : World)
     (g : IsGraph nodes) (t : HasTables nodes p) (u : IsUtility nodes goal) (split : IsSplit nodes fixed goal matters joined)
-    (f_looks : (u : ℕ) → (Arc nodes u goal → ⊥) → Overlooks (states_of nodes) f u) (iq : InRange (states_of nodes) q) where
+    (f_looks : (u : ℕ) → (Arc nodes u goal → ⊥) → Ignores (states_of nodes) f u) (iq : InRange (states_of nodes) q) where
   -- a list with parents first
   abbrev order : List ℕ
   order = (ordered nodes g).order
@@ -211,7 +210,7 @@ module _ (nodes : List NodeView) (p : List RuleView) (d : ℕ) (fixed : ℕ → 
 
   -- f looks at the goal's parents alone
   goal_looks : (u : ℕ) → ¬ (IsParent nodes u goal) → Ignores (states_of nodes) f u
-  goal_looks x n = ignored (states_of nodes) f x (f_looks x (λ a. n (parent_of nodes x goal a)))
+  goal_looks x n = f_looks x (λ a. n (parent_of nodes x goal a))
 
   -- no number stands twice
   apart : Apart (numbers_of nodes)

@@ -16,7 +16,7 @@ use Rattle.finite_sums.proofs.Lists.{all_ignored, avoids, sum_over-shuffled, pro
 use Rattle.finite_sums.proofs.Sums.{sum_over_product}
 use Rattle.maid_model.proofs.Tables.{table-total}
 use Rattle.finite_sums.proofs.Totals.{totals_out}
-use Rattle.maid_laws.specs.Sums.{Overlooks, OverlooksAll, LawOfTotals, WeightsAddUp, LawOfProducts, SumsInAnyOrder}
+use Rattle.maid_laws.specs.Sums.{LawOfTotals, WeightsAddUp, LawOfProducts, SumsInAnyOrder}
 use Rattle.maid_laws.proofs.Basis.{table_looks, have_totals}
 use Rattle.maid_laws.proofs.Collapse.{Apart}
 use Rattle.maid_laws.proofs.Members.{among_of, contains_of, apart_of, arc_of}
@@ -29,14 +29,6 @@ use Rattle.maid_laws.proofs.Signs.{pos_product}
 use Rattle.maid_laws.proofs.Sorted.{sorted}
 use Rattle.maid_laws.proofs.Summed.{later_all}
 use Rattle.maid_laws.proofs.Tied.{tables_of}
-
--- the two ways to say it
-pub ignored : (count : ℕ → ℕ) (f : World → ℤ) (v : ℕ) → Overlooks count f v → Ignores count f v
-ignored count f v h = record { same = λ w i s l. h.same w s i l }
-
--- for a list
-pub ignored_all : (count : ℕ → ℕ) (f : World → ℤ) (vs : List ℕ) → OverlooksAll count f vs → IgnoresAll count f vs
-ignored_all count f vs h = all_ignored count f vs (λ u m. ignored count f u (h u (contains_of u vs m)))
 
 module _ (nodes : List NodeView) (p : List RuleView) (g : IsGraph nodes) (t : HasTables nodes p) where
   -- each number's table has its total: past the last node it is 1
@@ -82,7 +74,7 @@ module _ (nodes : List NodeView) (p : List RuleView) (g : IsGraph nodes) (t : Ha
 
 -- for every diagram
 pub totals_law : LawOfTotals
-totals_law nodes p vs f w g c h apart blind i = totals_at nodes p g (tables_of nodes p g c h) vs f w (apart_of vs apart) (ignored_all (states_of nodes) f vs blind) i
+totals_law nodes p vs f w g c h apart blind i = totals_at nodes p g (tables_of nodes p g c h) vs f w (apart_of vs apart) blind i
 
 -- all nodes, and the factor 1
 pub weights_law : WeightsAddUp
@@ -94,7 +86,7 @@ weights_law nodes p g c h =
 
 -- for any counts
 pub products_law : LawOfProducts
-products_law count us vs f g w hf hg i = sum_over_product count us vs f g (ignored_all count f vs hf) (ignored_all count g us hg) w i
+products_law count us vs f g w hf hg i = sum_over_product count us vs f g hf hg w i
 
 -- the lists are rearrangements of each other
 pub any_order_law : SumsInAnyOrder

@@ -5,13 +5,13 @@ use Rattle.maid_model.specs.declared.diagrams.Kind.TheVariants.{Utility}
 use Rattle.maid_model.specs.Views.{NodeView, RuleView}
 use Rattle.maid_model.specs.Nodes.{node_at, states_of, numbers_of}
 use Rattle.maid_model.specs.Graph.{Arc, IsPath, IsGraph}
+use Rattle.finite_sums.specs.Looks.{Ignores}
 use Rattle.finite_sums.specs.Sums.{World, InRange, sum_over, product_over, nat_product_over}
 use Rattle.maid_model.specs.Tables.{HasChanceTables, weight_total}
 use Rattle.maid_model.specs.Profiles.{IsProfile}
 use Rattle.maid_model.specs.Gains.{sum_worlds, table_without, weight_without}
 use Rattle.maid_model.specs.Walks.{IsReachedFromParent}
 use Rattle.maid_model.specs.Relevance.{IsLive}
-use Rattle.maid_laws.specs.Sums.{Overlooks}
 
 -- a utility of the diagram
 pub record IsUtility (nodes : List NodeView) (v : ℕ) : Type 0 where
@@ -78,7 +78,7 @@ SumsSeparate = (nodes : List NodeView) (p : List RuleView) (d : ℕ) (fixed : �
     (matters joined : ℕ → Bool) (f : World → ℤ) (q : World) → IsGraph nodes
     → HasChanceTables nodes → IsProfile nodes p → IsUtility nodes goal
     → IsSplit nodes fixed goal matters joined
-    → ((u : ℕ) → (Arc nodes u goal → ⊥) → Overlooks (states_of nodes) f u)
+    → ((u : ℕ) → (Arc nodes u goal → ⊥) → Ignores (states_of nodes) f u)
     → InRange (states_of nodes) q
     → sum_worlds nodes (λ w.
     if agrees_at_fixed nodes fixed q w then weight_without nodes p d w *ℤ f w else pos 0)

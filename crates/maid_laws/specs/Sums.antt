@@ -1,27 +1,20 @@
 -- The laws of totals and of products.
-use Rattle.std.specs.Prelude.{◌≡◌, ◌↔◌, ℕ, ◌<◌, List, ◌++◌, Contains, ℤ, pos, ◌*ℤ◌}
+use Rattle.std.specs.Prelude.{◌≡◌, ◌↔◌, ℕ, List, ◌++◌, Contains, ℤ, pos, ◌*ℤ◌}
 use Rattle.maid_model.specs.Views.{NodeView, RuleView}
 use Rattle.maid_model.specs.Nodes.{states_of}
 use Rattle.maid_model.specs.Graph.{IsGraph, AllDifferent}
-use Rattle.finite_sums.specs.Sums.{World, InRange, with_state, sum_over, product_over, nat_product_over}
+use Rattle.finite_sums.specs.Sums.{World, InRange, sum_over, product_over, nat_product_over}
+use Rattle.finite_sums.specs.Looks.{IgnoresAll}
 use Rattle.maid_model.specs.Tables.{HasChanceTables, table, weight_total}
 use Rattle.maid_model.specs.Profiles.{IsProfile}
 use Rattle.maid_model.specs.Gains.{sum_worlds, weight, mass}
-
--- f does not look at the state of v
-pub record Overlooks (count : ℕ → ℕ) (f : World → ℤ) (v : ℕ) : Type 0 where
-  pub same : (w : World) (s : ℕ) → InRange count w → s < count v → f (with_state w v s) ≡ f w
-
--- f looks at the state of no node of the list
-abbrev pub OverlooksAll : (ℕ → ℕ) → (World → ℤ) → List ℕ → Type 0
-OverlooksAll count f vs = (v : ℕ) → Contains vs v → Overlooks count f v
 
 -- The law of totals: summed over any nodes, the product of their tables and rules is the product of their totals, and
 -- a factor that looks at none of them comes out of the sum.
 abbrev pub LawOfTotals : Type 0
 LawOfTotals = (nodes : List NodeView) (p : List RuleView) (vs : List ℕ) (f : World → ℤ) (w : World)
     → IsGraph nodes → HasChanceTables nodes → IsProfile nodes p → AllDifferent vs
-    → OverlooksAll (states_of nodes) f vs → InRange (states_of nodes) w
+    → IgnoresAll (states_of nodes) f vs → InRange (states_of nodes) w
     → sum_over (states_of nodes) vs (λ x. f x *ℤ product_over (λ v. table nodes p v x) vs) w
     ≡ f w *ℤ pos (nat_product_over (weight_total nodes p) vs)
 
@@ -35,7 +28,7 @@ WeightsAddUp = (nodes : List NodeView) (p : List RuleView) → IsGraph nodes →
 abbrev pub LawOfProducts : Type 0
 LawOfProducts =
     (count : ℕ → ℕ) (us vs : List ℕ) (f g : World → ℤ) (w : World)
-    → OverlooksAll count f vs → OverlooksAll count g us → InRange count w
+    → IgnoresAll count f vs → IgnoresAll count g us → InRange count w
     → sum_over count (us ++ vs) (λ x. f x *ℤ g x) w ≡ sum_over count us f w *ℤ sum_over count vs g w
 
 -- Nodes may be summed in any order.
