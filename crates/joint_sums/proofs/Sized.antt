@@ -23,11 +23,11 @@ use Rattle.ring_sums.proofs.Bounds.{keeps_sizes, holds_each}
 use Rattle.ring_sums.proofs.Same.{map_append}
 use Rattle.ring_sums.proofs.Sums.{product_append}
 use Rattle.plan_sums.specs.Plans.{Cells, mass_cells, has, node_table, utility_table, value_of}
-use Rattle.plan_sums.specs.Sizes.{AreSized}
+use Rattle.plan_sums.specs.Sizes.{AreSized, value_bound}
 use Rattle.plan_sums.proofs.Looks.{node_looks, utility_looks}
 use Rattle.plan_sums.proofs.Sized.{nat_product_is, weights_sum, weight_le, cell_le}
 use Rattle.scope_sums.proofs.Summed.{product_at}
-use Rattle.joint_sums.specs.Joint.{joint_ruled, joint_summed, joint_tables, joint_bound, value_bound, IsJointOrder, AreGoals}
+use Rattle.joint_sums.specs.Joint.{joint_ruled, joint_summed, joint_tables, joint_bound, IsJointOrder, AreGoals}
 use Rattle.joint_sums.specs.Laws.{JointFits, JointHolds}
 use Rattle.joint_sums.proofs.ScopeNodes.{node_kind, ruled_node, ruled_apart, summed_ruled}
 

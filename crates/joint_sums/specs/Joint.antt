@@ -1,7 +1,6 @@
 -- Several goals of a decision summed together: the nodes of its scope, their first tables, and the joint sum.
-use Rattle.std.specs.Prelude.{◌↔◌, ℕ, ◌*◌, ◌<◌, not, ◌==◌, max, List, ◌∷◌, ◌++◌, length, map, filter, Contains}
+use Rattle.std.specs.Prelude.{◌↔◌, ℕ, ◌*◌, ◌<◌, not, ◌==◌, List, ◌∷◌, ◌++◌, length, map, filter, Contains}
 use Rattle.finite_sums.specs.Sums.{World, nat_product_over}
-use Rattle.maid_model.specs.Gains.{greatest_abs}
 use Rattle.maid_model.specs.Graph.{AllDifferent}
 use Rattle.maid_model.specs.Nodes.{node_at, states_of, parents_of, is_utility}
 use Rattle.maid_model.specs.Relevance.{IsGoal}
@@ -11,6 +10,7 @@ use Rattle.maid_model.specs.Views.{NodeView, RuleView}
 use Rattle.ring_sums.specs.Sums.{ring_sum_over}
 use Rattle.ring_sums.specs.Tables.{Table, product_of}
 use Rattle.plan_sums.specs.Plans.{Cells, has, node_table, utility_table}
+use Rattle.plan_sums.specs.Sizes.{value_bound}
 
 -- the chance and decision nodes of a decision's scope
 abbrev pub scope_nodes : List NodeView → ℕ → List ℕ
@@ -36,10 +36,6 @@ abbrev pub joint_sum :
     {C : Type 0} → Cells C → List NodeView → List RuleView → ℕ → List ℕ → World → C
 joint_sum c nodes p d us q = ring_sum_over c.ring (states_of nodes) (joint_summed nodes d)
     (product_of c.ring (joint_tables c nodes p d us)) q
-
--- what bounds the sizes of a utility's cells: twice the greater of 1 and its greatest absolute value
-abbrev pub value_bound : List NodeView → ℕ → ℕ
-value_bound nodes u = 2 * max 1 (greatest_abs (node_at nodes u).cells)
 
 -- the product of the totals of the tables, and of what bounds the utilities' cells
 abbrev pub joint_bound : List NodeView → List RuleView → ℕ → List ℕ → ℕ

@@ -15,7 +15,7 @@ use Rattle.factor_core.specs.Slots.{WorkspaceView, table_of}
 use Rattle.finite_sums.specs.Members.{Among}
 use Rattle.finite_sums.specs.Sums.{World, InRange, nat_product_over, sum_each}
 use Rattle.finite_sums.proofs.Members.{among_from_contains, contains_from_among}
-use Rattle.joint_sums.specs.Joint.{AreGoals, IsJointOrder, joint_bound, joint_ruled, joint_summed, joint_tables, value_bound}
+use Rattle.joint_sums.specs.Joint.{AreGoals, IsJointOrder, joint_bound, joint_ruled, joint_summed, joint_tables}
 use Rattle.joint_sums.proofs.KindSums.{both_pairs, both_run, both_run_sized, gains_by}
 use Rattle.joint_sums.proofs.Orders.{runs_joint}
 use Rattle.joint_sums.proofs.ScopeNodes.{node_kind, node_within, ruled_node, summed_ruled}
@@ -32,6 +32,7 @@ use Rattle.maid_model.specs.Views.{DiagramView, RuleView}
 use Rattle.node_sets.specs.declared.sets.NodeSet.{NodeSet}
 use Rattle.node_sets.specs.Sets.{IsIn, holds}
 use Rattle.plan_sums.specs.Plans.{has, node_table, utility_table}
+use Rattle.plan_sums.specs.Sizes.{value_bound}
 use Rattle.ring_sums.specs.Groups.{StepsFit, StepsHold}
 use Rattle.ring_sums.specs.Tables.{eliminate, joined, product_of}
 use Rattle.ring_sums.proofs.Same.{fits_more}

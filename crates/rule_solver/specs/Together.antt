@@ -2,12 +2,13 @@
 use Rattle.std.specs.Prelude.{◌≡◌, ◌↔◌, ◌⊎◌, ℕ, ◌*◌, ◌<◌, ◌≤◌, List, take, Contains, Option, Some, None, MatchOption}
 use Rattle.cell_rings.specs.Rings.{most_size}
 use Rattle.finite_sums.specs.Sums.{nat_product_over}
-use Rattle.joint_sums.specs.Joint.{IsJointOrder, joint_ruled, value_bound}
+use Rattle.joint_sums.specs.Joint.{IsJointOrder, joint_ruled}
 use Rattle.maid_model.specs.Graph.{AllDifferent}
 use Rattle.maid_model.specs.Tables.{weight_total}
 use Rattle.maid_model.specs.Views.{NodeView, RuleView}
 use Rattle.node_sets.specs.declared.sets.NodeSet.{NodeSet}
 use Rattle.node_sets.specs.Sets.{IsIn}
+use Rattle.plan_sums.specs.Sizes.{value_bound}
 use Rattle.size_precheck.specs.Sizes.{SizedPlan}
 use Rattle.rule_solver.specs.declared.joint_goals.Joint.{Joint}
 

@@ -2,7 +2,7 @@
 use Rattle.std.proofs.Common.{◌∙◌, ◌*◌, ℕ, List, take, slice_index, sym, ap}
 use Rattle.std.proofs.lemmas.List.{get_or_default, take_more}
 use Rattle.finite_sums.specs.Sums.{nat_product_over}
-use Rattle.joint_sums.specs.Joint.{value_bound}
+use Rattle.plan_sums.specs.Sizes.{value_bound}
 use Rattle.rule_solver.proofs.JointLists.{product_push}
 use Rattle.rule_solver.proofs.joint_goals.Joint.fitting.Goals as goal
 

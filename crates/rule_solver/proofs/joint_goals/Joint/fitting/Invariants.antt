@@ -1,7 +1,7 @@
 use Rattle.std.proofs.Common.{◌≡◌, ◌*◌, ◌<◌, ◌≤◌, take}
 use Rattle.cell_rings.specs.Rings.{most_size}
 use Rattle.finite_sums.specs.Sums.{nat_product_over}
-use Rattle.joint_sums.specs.Joint.{value_bound}
+use Rattle.plan_sums.specs.Sizes.{value_bound}
 use Rattle.rule_solver.proofs.joint_goals.Joint.fitting.Given as goal
 
 -- the bound is that of the goals so far, and where there is one it fits
