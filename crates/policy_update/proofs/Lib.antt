@@ -1,4 +1,4 @@
-mod Rooms
+mod TextOrder
 mod Choices
 mod Scopes
 mod Plans

@@ -8,9 +8,9 @@ ghost use Rattle.policy_update.specs.Faults.{update_bound_pass, owners_pass, upd
 ghost use Rattle.policy_update.specs.Steps.{IsPlannedRun};
 
 use crate::UpdateFault;
-use maid_model::{Diagram, descent_is_tested};
-use rule_solver::keeps_plan_limits;
-use size_precheck::{RunPlans, greedy_orders, plan_run, sizes_of_plans};
+use maid_model::Diagram;
+use rule_solver::{counted_plans_have_room, keeps_plan_limits};
+use size_precheck::{RunPlans, plan_run, sizes_of_plans};
 use std::alloc::Global;
 use weight_scale::{BoundPlace, bound};
 
@@ -51,8 +51,7 @@ pub(crate) fn keep_sizes(
     ensures run { IfOk result (IsPlannedRun diagram.now.nodes) }
 {
     sizes_of_plans();
-    greedy_orders();
-    descent_is_tested();
+    counted_plans_have_room();
     let plans = plan_run(alloc, diagram, decisions)?;
     if !keeps_plan_limits(&plans.size) {
         return Err(UpdateFault::TooLarge {

@@ -41,7 +41,7 @@ pub use bases::base_of;
 pub use decision_sums::{RowSums, row_gains_by, row_sums, row_sums_by};
 pub use faults::SolveFault;
 pub use keeping::{KeptDiagram, keep_diagram, kept_diagrams_stand};
-pub use laws::measured_plans_have_room;
+pub use laws::{counted_plans_have_room, measured_plans_have_room, orders_list_decisions};
 pub use limits::{keep_bound, keeps_plan_limits};
 pub use optima::optimum_with;
 pub use rows::row_gains;

@@ -12,8 +12,9 @@ ghost use Rattle.rule_solver.specs.Rooms.{HasRoomForRun};
 
 use crate::SolveFault;
 use crate::keeping::KeptDiagram;
-use maid_model::{Diagram, MOST_PLAN_CELLS, MOST_WORK, descent_is_tested};
-use size_precheck::{RunPlans, Size, greedy_orders, plan_run, plan_run_with, sizes_of_plans};
+use crate::laws::counted_plans_have_room;
+use maid_model::{Diagram, MOST_PLAN_CELLS, MOST_WORK};
+use size_precheck::{RunPlans, Size, plan_run, plan_run_with, sizes_of_plans};
 use std::alloc::{AllocError, Global};
 use weight_scale::{BoundPlace, bound};
 
@@ -76,8 +77,7 @@ pub(crate) fn keep_sizes(
     ensures limit { IfOk result (λ run. run.size.cells ≤ MOST_PLAN_CELLS) }
 {
     sizes_of_plans();
-    greedy_orders();
-    descent_is_tested();
+    counted_plans_have_room();
     let plans = plan_by(alloc, diagram, order, kept)?;
     if !keeps_plan_limits(&plans.size) {
         return Err(SolveFault::TooLarge {
