@@ -5,7 +5,6 @@ mod Left
 mod Listed
 mod Measured
 mod Naturals
-mod Orders
 mod PlanCells
 mod Planned
 mod Products

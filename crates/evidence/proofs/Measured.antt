@@ -1,35 +1,33 @@
 -- The sizes of all plans, counted one after the other, and the room that they tell.
-use Rattle.std.proofs.Common.{◌≡◌, ◌⊎◌, ◌∙◌, ◌&&◌, ℕ, ◌+◌, ◌≤◌, min, max, Bool, false, cond, filter, map, List, [], ◌∷◌, ◌++◌, refl, sym, ap, subst, inl, inr, arith, Some, None}
-use Rattle.std.specs.Prelude.{flat_map, sum_by}
-use Rattle.std.specs.List.{AllZip, range_with_len}
+use Rattle.std.proofs.Common.{◌≡◌, ◌∙◌, ℕ, suc, ◌+◌, ◌≤◌, min, max, Bool, false, cond, filter, map, List, [], ◌∷◌, ◌++◌, Contains, refl, sym, ap, subst, inl, inr, arith, Some, None}
+use Rattle.std.specs.Prelude.{sum_by}
+use Rattle.std.specs.List.{range_with_len}
 use Rattle.std.proofs.lemmas.List.{append_assoc}
 use Rattle.std.proofs.lemmas.List.Elements.{filter-append}
 use Rattle.std.proofs.lemmas.List.FromFn.{map-range_with_len_more}
 use Rattle.std.proofs.lemmas.List.Sums.{sum_by-append}
 use Rattle.finite_sums.specs.Members.{Among}
-use Rattle.finite_sums.proofs.Members.{among_from_contains, any_is, filter_has}
+use Rattle.finite_sums.proofs.Members.{filter_has}
 use Rattle.maid_model.specs.declared.limits.TheConstants.{COUNT_END}
 use Rattle.maid_model.specs.declared.diagrams.Kind.{Kind}
 use Rattle.maid_model.specs.declared.diagrams.Kind.TheVariants.{Chance, Decision, Utility}
 use Rattle.maid_model.specs.Bounds.{stopped}
-use Rattle.maid_model.specs.Laws.{TestsDescent}
-use Rattle.maid_model.specs.Nodes.{IsDecision, agent_of, node_at, numbers_of, owners_of, is_utility}
+use Rattle.maid_model.specs.Nodes.{IsDecision, node_at, numbers_of, is_utility}
 use Rattle.maid_model.specs.Placing.{IsRelianceOrder}
-use Rattle.maid_model.specs.Relevance.{IsGoal, ReliesOn}
+use Rattle.maid_model.specs.Relevance.{ReliesOn}
 use Rattle.maid_model.specs.Views.{NodeView, DiagramView}
 use Rattle.maid_laws.proofs.OneAnswer.{order_one}
 use Rattle.maid_laws.proofs.Rearranged.{number}
 use Rattle.ring_sums.proofs.Each.{zip_append}
 use Rattle.ring_sums.proofs.Same.{map_append}
-use Rattle.plan_sums.specs.Plans.{PlanView, row_plan, gain_plan, worth_plan}
+use Rattle.plan_sums.specs.Plans.{PlanView}
 use Rattle.size_precheck.specs.declared.sizes.Size.{Size}
-use Rattle.size_precheck.specs.Laws.{OneGreedyOrder, OneSize}
-use Rattle.size_precheck.specs.Sizes.{IsMade, HasSize, IsSizeOfAll, IsSizeOfRun, goal_list, greatest, is_goal, plan_cells, run_plans, utility_list}
+use Rattle.size_precheck.specs.Laws.{OneSize}
+use Rattle.size_precheck.specs.Sizes.{HasSize, IsSizeOfAll, IsSizeOfRun, greatest, run_plans, utility_list}
 use Rattle.rule_solver.specs.Faults.{KeepsPlanLimits}
-use Rattle.rule_solver.specs.Rooms.{HasCellsAtMost, HasRoomForRun}
+use Rattle.rule_solver.specs.Rooms.{HasCellsAtMost}
 use Rattle.evidence.specs.Measures.{AddsPlan, AddsUtility}
-use Rattle.evidence.specs.Plans.{HasRoomForAll}
-use Rattle.evidence.specs.Sizes.{HasRoomGiven, IsSmallEnoughGiven, plan_given, plans_given}
+use Rattle.evidence.specs.Sizes.{HasRoomGiven, IsSmallEnoughGiven, further_plans, plan_given, plans_given}
 
 -- ---- one plan more
 greatest_append : (xs ys : List ℕ) → greatest (xs ++ ys) ≡ max (greatest xs) (greatest ys)
@@ -138,104 +136,17 @@ small_given d order x size one is sized keeps other given =
     subst KeepsPlanLimits same keeps
 
 -- ---- room
--- x is in the list
-abbrev IsListed : {X : Type 0} → X → List X → Type 0
-IsListed x [] = ⊥
-IsListed x (y ∷ ys) = (x ≡ y) ⊎ IsListed x ys
+-- the further plans have room where each of them has
+pub room_given : (nodes : List NodeView) (x cells : ℕ) → ((plan : PlanView) → Contains (further_plans nodes x) plan → HasCellsAtMost nodes plan cells) → HasRoomGiven nodes x cells
+room_given nodes x cells fits = record {
+  alone = fits (plan_given x None) (0, omega arith, refl);
+  utilities = λ u l k. fits (plan_given x (Some u)) (of_utility (utility_list nodes) u (filter_has (λ v. is_utility (node_at nodes v).kind) u (numbers_of nodes) (number nodes u l) (ap is_utility k)));
+}
+  where
+    listed : (us : List ℕ) (u : ℕ) → Among u us → Contains (map (λ v. plan_given x (Some v)) us) (plan_given x (Some u))
+    listed [] u m = absurd m
+    listed (v ∷ us) u (inl e) = (0, omega arith, ap (λ w. plan_given x (Some w)) (sym e))
+    listed (v ∷ us) u (inr m) = let c = listed us u m in (suc c.0, omega (arith, c.1), c.2)
 
-listed_left : {X : Type 0} (x : X) (xs ys : List X) → IsListed x xs → IsListed x (xs ++ ys)
-listed_left x [] ys h = absurd h
-listed_left x (z ∷ xs) ys (inl e) = inl e
-listed_left x (z ∷ xs) ys (inr m) = inr (listed_left x xs ys m)
-
-listed_right : {X : Type 0} (x : X) (xs ys : List X) → IsListed x ys → IsListed x (xs ++ ys)
-listed_right x [] ys h = h
-listed_right x (z ∷ xs) ys h = inr (listed_right x xs ys h)
-
-listed_map : {X : Type 0} (f : ℕ → X) (v : ℕ) (vs : List ℕ) → Among v vs → IsListed (f v) (map f vs)
-listed_map f v [] h = absurd h
-listed_map f v (u ∷ vs) (inl e) = inl (ap f e)
-listed_map f v (u ∷ vs) (inr m) = inr (listed_map f v vs m)
-
-listed_flat : {X : Type 0} (f : ℕ → List X) (x : X) (v : ℕ) (vs : List ℕ) → Among v vs → IsListed x (f v) → IsListed x (flat_map f vs)
-listed_flat f x v [] h m = absurd h
-listed_flat f x v (u ∷ vs) (inl e) m = listed_left x (f u) (flat_map f vs) (subst (λ z. IsListed x (f z)) e m)
-listed_flat f x v (u ∷ vs) (inr h) m = listed_right x (f u) (flat_map f vs) (listed_flat f x v vs h m)
-
-module _ (nodes : List NodeView) (one : OneGreedyOrder) where
-  -- each of the plans is at most as large as the greatest, since it has one greedy order
-  plan_fits : (plans : List PlanView) (sizes : List Size) → AllZip (HasSize nodes) plans sizes → (plan : PlanView) → IsListed plan plans → HasCellsAtMost nodes plan (greatest (map (λ (s : Size). s.cells) sizes))
-  plan_fits [] [] z plan h = absurd h
-  plan_fits [] (s ∷ sizes) z plan h = absurd h
-  plan_fits (p ∷ plans) [] z plan h = absurd z
-  plan_fits (p ∷ plans) (s ∷ sizes) z plan (inl e) = λ made is.
-      let here : IsMade nodes p made = subst (λ x. IsMade nodes x made) e is in
-      let steps : made.steps ≡ z.0.0 = one nodes p made.steps z.0.0 here.greedy z.0.1.greedy in
-      first made.size.cells s.cells (greatest (map (λ (s : Size). s.cells) sizes)) (here.cells ∙ ap (plan_cells nodes p) steps ∙ sym z.0.1.cells)
-    where
-      first : (a b c : ℕ) → a ≡ b → a ≤ max b c
-      first a b c e = omega arith
-  plan_fits (p ∷ plans) (s ∷ sizes) z plan (inr m) = λ made is. later made.size.cells s.cells (greatest (map (λ (s : Size). s.cells) sizes)) (plan_fits plans sizes z.1 plan m made is)
-    where
-      later : (a b c : ℕ) → a ≤ c → a ≤ max b c
-      later a b c h = omega arith
-
-  module _ (order : List ℕ) (x : ℕ) (size : Size) (sized : IsSizeOfAll nodes (plans_given nodes order x) size) where
-    abbrev further : List PlanView
-    further = plan_given x None ∷ map (λ u. plan_given x (Some u)) (utility_list nodes)
-
-    fits : (plan : PlanView) → IsListed plan (plans_given nodes order x) → HasCellsAtMost nodes plan size.cells
-    fits plan m = subst (HasCellsAtMost nodes plan) (sym sized.cells) (plan_fits (plans_given nodes order x) sized.sizes sized.each plan m)
-
-    further_fits : (plan : PlanView) → IsListed plan further → HasCellsAtMost nodes plan size.cells
-    further_fits plan m = fits plan (listed_right plan (run_plans nodes order) further m)
-
-    room_given : HasRoomGiven nodes x size.cells
-    room_given = record {
-      alone = further_fits (plan_given x None) (inl refl);
-      utilities = λ u l k. further_fits (plan_given x (Some u)) (inr (listed_map (λ v. plan_given x (Some v)) u (utility_list nodes) (filter_has (λ v. is_utility (node_at nodes v).kind) u (numbers_of nodes) (number nodes u l) (ap is_utility k))));
-    }
-
-    -- the plans of a run are those of rows, then those of states, then those of worths
-    abbrev rows : List PlanView
-    rows = map (λ d. row_plan nodes d) order
-
-    abbrev gains : List PlanView
-    gains = flat_map (λ d. map (λ u. gain_plan nodes d u) (goal_list nodes d)) order
-
-    abbrev worths : List PlanView
-    worths = map (λ u. worth_plan u) (utility_list nodes)
-
-    run_fits : (plan : PlanView) → IsListed plan (run_plans nodes order) → HasCellsAtMost nodes plan size.cells
-    run_fits plan m = fits plan (listed_left plan (run_plans nodes order) further m)
-
-    of_rows : (plan : PlanView) → IsListed plan rows → HasCellsAtMost nodes plan size.cells
-    of_rows plan m = run_fits plan (listed_left plan (rows ++ gains) worths (listed_left plan rows gains m))
-
-    of_gains : (plan : PlanView) → IsListed plan gains → HasCellsAtMost nodes plan size.cells
-    of_gains plan m = run_fits plan (listed_left plan (rows ++ gains) worths (listed_right plan rows gains m))
-
-    of_worths : (plan : PlanView) → IsListed plan worths → HasCellsAtMost nodes plan size.cells
-    of_worths plan m = run_fits plan (listed_right plan (rows ++ gains) worths m)
-
-    module _ (tested : TestsDescent) (is : IsRelianceOrder nodes order) where
-      goal_listed : (d u : ℕ) → IsGoal nodes d u → Among u (goal_list nodes d)
-      goal_listed d u goal = filter_has (λ x. is_goal nodes d x) u (numbers_of nodes) (number nodes u goal.within) (λ i. (tested nodes d u).1 goal.below i && (ap is_utility goal.kind i && (any_is (agent_of nodes d) (owners_of nodes u)).1 goal.owner i))
-
-      ordered : (d : ℕ) → IsDecision nodes d → Among d order
-      ordered d k = among_from_contains order d (is.complete d k)
-
-      room_run : HasRoomForRun nodes size.cells
-      room_run = record {
-        decisions = λ d k. record {
-          rows = of_rows (row_plan nodes d) (listed_map (λ e. row_plan nodes e) d order (ordered d k));
-          goals = λ u goal. of_gains (gain_plan nodes d u)
-              (listed_flat (λ e. map (λ x. gain_plan nodes e x) (goal_list nodes e)) (gain_plan nodes d u) d order (ordered d k)
-              (listed_map (λ x. gain_plan nodes d x) u (goal_list nodes d) (goal_listed d u goal)));
-        };
-        worths = λ u l k. of_worths (worth_plan u)
-            (listed_map (λ x. worth_plan x) u (utility_list nodes) (filter_has (λ x. is_utility (node_at nodes x).kind) u (numbers_of nodes) (number nodes u l) (ap is_utility k)));
-      }
-
-      pub room_for_all : HasRoomForAll nodes x size.cells
-      room_for_all = record { run = room_run; given = room_given }
+    of_utility : (us : List ℕ) (u : ℕ) → Among u us → Contains (plan_given x None ∷ map (λ v. plan_given x (Some v)) us) (plan_given x (Some u))
+    of_utility us u m = let c = listed us u m in (suc c.0, omega (arith, c.1), c.2)

@@ -16,10 +16,13 @@ ghost use Rattle.evidence.specs.Plans.{HasFurtherPlans, HasRoomForAll, HasRunPla
 ghost use Rattle.evidence.specs.Sizes.{HasSpace};
 
 use crate::measures::{GivenPlans, plan_all};
-use maid_model::{Diagram, Solved, descent_is_tested};
+use maid_model::{Diagram, Solved};
 use relevance_graph::{Relevance, find_relevance};
-use rule_solver::{SolveFault, Workspaces, keep_bound, keeps_plan_limits, solve_by};
-use size_precheck::{greedy_orders, sizes_of_plans};
+use rule_solver::{
+    SolveFault, Workspaces, counted_plans_have_room, keep_bound, keeps_plan_limits,
+    orders_list_decisions, solve_by,
+};
+use size_precheck::sizes_of_plans;
 use std::alloc::Global;
 use weight_scale::{BoundPlace, place_given};
 
@@ -56,8 +59,8 @@ fn keep_sizes(
     ensures limit { IfOk result (λ p. p.size.cells ≤ MOST_PLAN_CELLS) }
 {
     sizes_of_plans();
-    greedy_orders();
-    descent_is_tested();
+    orders_list_decisions();
+    counted_plans_have_room();
     let plans = plan_all(alloc, diagram, order, node)?;
     if !keeps_plan_limits(&plans.size) {
         return Err(SolveFault::TooLarge {

@@ -12,6 +12,7 @@ ghost use Rattle.evidence.specs.Plans.{HasFurtherPlans, HasRunPlans, IsPlanGiven
 ghost use Rattle.evidence.specs.Sizes.{IsSizeOfPlans, plan_given};
 
 use maid_model::{COUNT_END, Diagram, Kind};
+use rule_solver::orders_list_decisions;
 use size_precheck::{Plan, RunPlans, Size, make_plan, plan_run};
 use std::alloc::{AllocError, Global};
 
@@ -97,6 +98,7 @@ pub(crate) fn plan_all(
     ensures further { IfOk result (HasFurtherPlans diagram.now.nodes node) }
     ensures size { IfOk result (λ p. IsSizeOfPlans diagram.now.nodes order.now node p.size) }
 {
+    orders_list_decisions();
     let run = plan_run(alloc, diagram, order)?;
     let (alone, first) = add_plan(alloc, diagram, node, None, run.size)?;
     let mut utilities = Vec::with_capacity(alloc, diagram.count())?;

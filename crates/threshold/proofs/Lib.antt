@@ -1,7 +1,7 @@
 pub mod Narrowing
 pub mod Alike
 pub mod Plans
-pub mod Rooms
+pub mod AnswerPlans
 pub mod Tables
 pub mod Moves
 pub mod Ending

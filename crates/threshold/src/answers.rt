@@ -12,9 +12,11 @@ use crate::control::{all_reached, find_controlled, is_free};
 use crate::ends::Ends;
 use crate::held::{Held, all_fractions, narrow_rows};
 use crate::weights::{Place, weight_there};
-use maid_model::{Answer, Diagram, Solved, descent_is_tested};
+use maid_model::{Answer, Diagram, Solved};
 use relevance_graph::{Relevance, find_relevance};
-use rule_solver::{Workspaces, base_of, row_gains_by};
+use rule_solver::{
+    Workspaces, base_of, counted_plans_have_room, orders_list_decisions, row_gains_by,
+};
 use size_precheck::{DecisionPlans, greedy_orders, kept_plans_stand, plan_run};
 use std::alloc::{AllocError, Global};
 
@@ -153,8 +155,8 @@ impl<'a> Question<'a> {
         ensures range { IfOk result IsRange }
         ensures held { IfOk result (HoldsAllAnswers self.now) }
     {
-        greedy_orders();
-        descent_is_tested();
+        orders_list_decisions();
+        counted_plans_have_room();
         let (diagram, solved) = (self.diagram, self.solved);
         let relevance = find_relevance(alloc, diagram)?;
         let run = plan_run(alloc, diagram, &solved.order)?;

@@ -2,7 +2,8 @@ use Rattle.evidence.specs.Faults.{given_size_pass}
 use Rattle.rule_solver.specs.Faults.{KeepsPlanLimits}
 use Rattle.evidence.proofs.HandedOn.{solver_out_of_memory}
 use Rattle.std.proofs.lemmas.Result.{IfOk-from_err}
-use Rattle.evidence.proofs.Measured.{room_for_all, small_given}
+use Rattle.evidence.specs.Sizes.{further_plans}
+use Rattle.evidence.proofs.Measured.{room_given, small_given}
 use Rattle.evidence.proofs.limits.keep_sizes.Goals as goal
 
 pub returns-clause-rows : goal.returns-clause-rows
@@ -10,7 +11,10 @@ returns-clause-rows c = small_given c.args.diagram.now c.args.order.now c.args.n
 
 pub returns-clause-room : goal.returns-clause-room
 returns-clause-room c =
-    room_for_all c.args.diagram.now.nodes c.greedy_orders.ensures.one c.args.order.now c.args.node c.in_ok-plans.plans.size c.in_ok-plans.ensures.size c.descent_is_tested.ensures c.requires.order
+    let nodes = c.args.diagram.now.nodes in
+    let order = c.args.order.now in
+    let room = c.counted_plans_have_room.ensures.further nodes order (further_plans nodes c.args.node) c.in_ok-plans.plans.size (c.orders_list_decisions.ensures nodes order c.requires.order) c.in_ok-plans.ensures.size in
+    record { run = room.0; given = room_given nodes c.args.node c.in_ok-plans.plans.size.cells room.1 }
 
 pub plan_all-requires-clause-order : goal.plan_all-requires-clause-order
 plan_all-requires-clause-order c = c.requires.order

@@ -5,11 +5,10 @@ use Rattle.std.proofs.Common.{◌∙◌, ◌+◌, None, arith, length, slice_ind
 use Rattle.evidence.specs.Plans.{IsPlanIf}
 use Rattle.evidence.proofs.Listed.{at_more, long_more}
 use Rattle.evidence.proofs.Measured.{counted_first, counted_next, Counted, size_few}
-use Rattle.evidence.proofs.Orders.{lists_decisions}
 use Rattle.evidence.proofs.measures.plan_all.Goals as goal
 
 pub plan_run-requires : goal.plan_run-requires
-plan_run-requires c = lists_decisions c.args.diagram.now.nodes c.args.order.now c.requires.order
+plan_run-requires c = c.orders_list_decisions.ensures c.args.diagram.now.nodes c.args.order.now c.requires.order
 
 pub loop-v-init : goal.loop-v-init
 loop-v-init c = (

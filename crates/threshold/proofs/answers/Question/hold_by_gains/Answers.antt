@@ -3,12 +3,11 @@ use Rattle.maid_model.specs.declared.limits.TheConstants.{MOST_PLAN_CELLS}
 use Rattle.maid_model.specs.Views.{SolvedView}
 use Rattle.size_precheck.specs.Decisions.{ArePlans}
 use Rattle.size_precheck.specs.Sizes.{IsSizeOfRun, ListsDecisions}
-use Rattle.threshold.proofs.Rooms.{has_room, lists_decisions}
 use Rattle.threshold.proofs.answers.Question.hold_by_gains.Goals as goal
 
 pub plan_run-requires : goal.plan_run-requires
 plan_run-requires c =
-    subst (ListsDecisions c.args.self.now.diagram.now.nodes) (sym (c.deref.ensures.value ∙ ap (λ (s : SolvedView). s.order) c.solved.view_is)) (lists_decisions c.args.self.now.diagram.now.nodes c.args.self.now.solved.now.order c.requires.setting.answer.order)
+    subst (ListsDecisions c.args.self.now.diagram.now.nodes) (sym (c.deref.ensures.value ∙ ap (λ (s : SolvedView). s.order) c.solved.view_is)) (c.orders_list_decisions.ensures c.args.self.now.diagram.now.nodes c.args.self.now.solved.now.order c.requires.setting.answer.order)
 
 pub overflow_cast-run : goal.overflow_cast-run
 overflow_cast-run c =
@@ -34,7 +33,7 @@ narrow_all-requires-clause-ready c =
     let sized = subst (λ order. IsSizeOfRun nodes order c.in_ok-run.run'.size) (c.deref.ensures.value ∙ ap (λ (s : SolvedView). s.order) c.solved.view_is) c.in_ok-run.ensures.size in (
       c.in_ok-run.run'.size.cells,
       c.in_ok-spaces.ensures,
-      has_room nodes c.greedy_orders.ensures.one c.args.self.now.solved.now.order c.requires.setting.answer.order c.in_ok-run.run'.size c.descent_is_tested.ensures sized,
+      c.counted_plans_have_room.ensures.run nodes c.args.self.now.solved.now.order c.in_ok-run.run'.size (c.orders_list_decisions.ensures nodes c.args.self.now.solved.now.order c.requires.setting.answer.order) sized,
     )
 
 pub narrow_all-requires-clause-setting : goal.narrow_all-requires-clause-setting

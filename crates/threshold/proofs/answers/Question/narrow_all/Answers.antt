@@ -3,7 +3,7 @@ use Rattle.maid_model.specs.Views.{SolvedView}
 use Rattle.rule_solver.specs.Rooms.{AreReady}
 use Rattle.threshold.proofs.Assembling.{held_more, held_end, of_list, held_start}
 use Rattle.threshold.proofs.Holding.{answer_decides}
-use Rattle.threshold.proofs.Rooms.{plan_within, plans_at}
+use Rattle.threshold.proofs.AnswerPlans.{plan_within, plans_at}
 use Rattle.maid_model.specs.Answers.{answered}
 use Rattle.threshold.proofs.answers.Question.narrow_all.Goals as goal
 
