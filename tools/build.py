@@ -3,9 +3,10 @@
 
 usage: build.py TOP
 
-The toolchain proves the program and the crates below it, as many side by side as there are processors, each once those
-that it stands on are. What an earlier run proved is kept in crates/*/out, so that only what changed is proved again. The
-status is 0 where the program stands, else 1 after one line that says what failed and where the log is.
+The toolchain proves the program and the crates below it, several side by side, each once those that it stands on are and
+by one process: shared among processes, a crate takes a third more processor time. What an earlier run proved is kept in
+crates/*/out, so that only what changed is proved again. The status is 0 where the program stands, else 1 after one line
+that says what failed and where the log is.
 """
 import os
 import re
@@ -15,6 +16,9 @@ import sys
 import time
 
 PROGRAM = "maidsolve"
+
+# What proving a large crate takes of memory, in bytes.
+MEMORY = 4_000_000_000
 
 
 def say(text):
@@ -32,6 +36,13 @@ def crates_below(top):
             needed.add(name)
             waiting += listed[name]
     return needed
+
+
+def worker_count():
+    """How many crates are proved side by side: one a processor, as far as the free memory goes."""
+    with open("/proc/meminfo") as lines:
+        free = 1024 * int(re.search(r"MemAvailable:\s+(\d+)", lines.read())[1])
+    return max(1, min(os.cpu_count() or 1, free // MEMORY))
 
 
 def time_text(seconds):
@@ -56,13 +67,13 @@ def prove(folder, log, names, workers):
 
 
 def build(top):
-    folder, workers = os.path.join(top, "crates", PROGRAM), os.cpu_count() or 1
-    out, names = os.path.join(folder, "out"), crates_below(top)
+    folder, workers, names = os.path.join(top, "crates", PROGRAM), worker_count(), crates_below(top)
+    out = os.path.join(folder, "out")
     program = os.path.join(out, PROGRAM)
     os.makedirs(out, exist_ok=True)
     if os.path.exists(program):
         os.remove(program)
-    say(f"proving and building {len(names)} crates on {workers} processors; from nothing that takes some minutes")
+    say(f"proving and building {len(names)} crates, {workers} at a time; from nothing that takes half an hour or more")
     with open(os.path.join(out, "build.log"), "w") as log:
         failed = prove(folder, log, names, workers)
         log.flush()
