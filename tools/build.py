@@ -4,7 +4,7 @@
 usage: build.py TOP
 
 The toolchain proves the program and the crates below it, several side by side, each once those that it stands on are and
-by one process: shared among processes, a crate takes a third more processor time. What an earlier run proved is kept in
+by one process, since sharing a crate among several takes more processor time. What an earlier run proved is kept in
 crates/*/out, so that only what changed is proved again. The status is 0 where the program stands, else 1 after one line
 that says what failed and where the log is.
 """
