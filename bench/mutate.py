@@ -3,11 +3,12 @@
 
     bench/mutate.py PROGRAM [--seed N] [--runs N] [--keep FOLDER] [--beside OTHER]
 
-The texts are those of examples/, of bench/more_rows.json, random small diagrams, and the reports that the
-program itself writes of them. One to four mutations change a text: bytes are flipped, cut or doubled, blocks exchanged, numbers
-made huge, brackets nested, names exchanged, lines removed. Where `print` takes the text, every form runs
-on it, and `check` on its own report, which must be accepted, and on a mutated one. Where `print` refuses
-it, two further forms must refuse it with the same line.
+The texts are random small diagrams, those of examples/ and of bench/more_rows.json, and the reports that
+the program itself writes of them. One to four mutations change a text that is not random: bytes are
+flipped, cut or doubled, blocks exchanged, numbers made huge, brackets nested, names exchanged, lines
+removed. Where `print` takes the text, every form runs on it, and `check` on its own report, which must be
+accepted, and on a mutated one. Where `print` refuses it, two further forms must refuse it with the same
+line.
 
 A fault is a run that ends by a signal, takes more than five seconds of the processor (or five minutes on
 the clock, which much else on the machine makes long), ends with a status that the form has not, or whose
