@@ -20,6 +20,7 @@ use Rattle.maid_model.specs.Tables.{HasChanceTables, IsTable, row_of, table, tab
 use Rattle.maid_model.specs.Values.{IsOptimum}
 use Rattle.maid_model.specs.Views.{NodeView, RuleView, AnswerView}
 use Rattle.maid_model.proofs.Pure.{pure_is_rule, pure_is_profile}
+use Rattle.maid_model.proofs.Weighing.{pos_at}
 use Rattle.arc_laws.specs.Worths.{OneAgentDiagram, AnswerIsOptimum}
 use Rattle.maid_laws.proofs.Alike.{gain_between, mass_between}
 use Rattle.maid_laws.proofs.AnswerLaws.{perfect_law, answers_fit}
@@ -34,7 +35,6 @@ use Rattle.maid_laws.proofs.Rearranged.{length_range}
 use Rattle.maid_laws.proofs.Rows.{rows_positive}
 use Rattle.maid_laws.proofs.Rules.{among_decisions}
 use Rattle.arc_laws.proofs.SameArcs.{states_same, row_same, graph_alike, table_there, rule_there, rule_back}
-use Rattle.maid_laws.proofs.Signs.{at_pos}
 use Rattle.maid_laws.proofs.Tied.{kind_within, decision_of}
 use Rattle.std.specs.List.{list_any}
 
@@ -202,7 +202,7 @@ module _ (nodes others : List NodeView) (agent : ℕ) (answers : List AnswerView
               ∙ table_same (node_at nodes v).kind (node_at nodes v).cells (weights_of q v) (weights_of p v) (cell_of nodes v w) (λ e. sym (f.own v (decision_of nodes v e) (h e)).weights)
           go (inr h) =
               (λ i. table_by (kind_fixed v h.0 h.1 i) (cells_fixed v h.0 h.1 i) (weights_of q v) (row_same nodes others r.len states_at parents_at v w i * states_at v i + w v))
-              ∙ at_pos (pure_at v) (cell_of nodes v w)
+              ∙ pos_at (pure_at v) (cell_of nodes v w)
               ∙ ap (λ ws. pos (slice_index ws (cell_of nodes v w))) (sym (f.weights v (decision_of nodes v h.0) h.1))
               ∙ (λ i. table_by (sym h.0 i) (node_at nodes v).cells (weights_of p v) (cell_of nodes v w))
 

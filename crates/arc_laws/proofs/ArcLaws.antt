@@ -18,6 +18,7 @@ use Rattle.finite_sums.proofs.Lists.{among_filter}
 use Rattle.maid_model.proofs.Setting.{HasTables}
 use Rattle.finite_sums.proofs.Sums.{sum_below_cong, with_same, with_other, with_in, with_again}
 use Rattle.maid_model.proofs.Tables.{row_of-below}
+use Rattle.maid_model.proofs.Weighing.{pos_at}
 use Rattle.arc_laws.specs.Arcs.{CanGet, KeptWithoutArc, LessWithoutArc, AsMuchWithoutArc, SameWithoutArc, SameWhenTrimmed}
 use Rattle.maid_laws.specs.Optimum.{IsAsGood}
 use Rattle.maid_laws.proofs.Basis.{among_filter_in}
@@ -32,7 +33,6 @@ use Rattle.maid_laws.proofs.PureReplies.{as_good_then, pure_weights, pure_table,
 use Rattle.maid_laws.proofs.Rearranged.{apart_filter}
 use Rattle.maid_laws.proofs.RowLaws.{no_gain_like, mass_at_least}
 use Rattle.arc_laws.proofs.SameOptimum.{good_equal, can_get, can_get_then, not_above, same_optimum}
-use Rattle.maid_laws.proofs.Signs.{at_pos}
 use Rattle.maid_laws.proofs.Tied.{tables_of}
 use Rattle.arc_laws.proofs.Unneeded.{unneeded_rows}
 
@@ -105,7 +105,7 @@ module _ (nodes others : List NodeView) (x d : ℕ) (l : Loses nodes others x d)
 
     lifted_sums : (r : ℕ) → r < rows_of nodes d → sum_below (states_of nodes d) (λ s. pos (slice_index (weights_of q d) (row_less r * states_of nodes d + s))) ≡ pos (rule_total q d)
     lifted_sums r m =
-        sum_below_cong (states_of nodes d) (λ s. pos (slice_index (weights_of q d) (row_less r * states_of nodes d + s))) (λ s. slice_index_or (map pos (weights_of q d)) (row_less r * states_of nodes d + s) (pos 0)) (λ s n. sym (at_pos (weights_of q d) (row_less r * states_of nodes d + s)))
+        sum_below_cong (states_of nodes d) (λ s. pos (slice_index (weights_of q d) (row_less r * states_of nodes d + s))) (λ s. slice_index_or (map pos (weights_of q d)) (row_less r * states_of nodes d + s) (pos 0)) (λ s n. sym (pos_at (weights_of q d) (row_less r * states_of nodes d + s)))
         ∙ (λ i. sum_below (sym (states_at nodes others x d l d) i) (λ s. slice_index_or (map pos (weights_of q d)) (row_less r * sym (states_at nodes others x d l d) i + s) (pos 0)))
         ∙ (hq.rule d (decision_there nodes others x d l d k)).table.row (row_less r) (row_from-less (world_of_row r) (world_of_row-in r))
 

@@ -6,11 +6,11 @@ use Rattle.std.proofs.lemmas.Nat.Gcd.{dvd_refl}
 use Rattle.maid_model.specs.declared.answers.Ratio.{Ratio}
 use Rattle.maid_model.specs.Answers.{IsFraction}
 use Rattle.maid_model.specs.Values.{IsDifference}
+use Rattle.maid_model.proofs.Adding.{product_not_negative}
 use Rattle.finite_sums.proofs.Ints.{zero_mul, mul_one, add_mul, products}
 use Rattle.arc_laws.specs.Worths.{nought_ratio}
 use Rattle.maid_laws.proofs.Best.{cancel_le}
 use Rattle.maid_laws.proofs.Fractions.{fraction_of, one_fraction, same_fraction, cancel}
-use Rattle.maid_laws.proofs.Signs.{product_not_negative}
 
 -- a natural as a positive number
 positive : (n : ℕ) → 0 < n → pos 0 <ℤ pos n

@@ -16,11 +16,11 @@ use Rattle.maid_model.specs.Tables.{HasChanceTables, IsTable, row_of, table, tab
 use Rattle.maid_model.specs.Views.{NodeView, RuleView}
 use Rattle.maid_model.specs.Walks.{IsJoined, IsCollider, IsActive, IsReached}
 use Rattle.maid_model.specs.Values.{IsUnreached}
+use Rattle.maid_model.proofs.Weighing.{pos_at}
 use Rattle.maid_laws.proofs.Alike.{gain_between, mass_between}
 use Rattle.maid_laws.proofs.Basis.{table_same}
 use Rattle.arc_laws.proofs.LostArc.{Loses, set_at, set_else}
 use Rattle.arc_laws.proofs.SameArcs.{states_same, row_same, arc_back, arc_there, descends_back, graph_alike, table_there}
-use Rattle.maid_laws.proofs.Signs.{at_pos}
 use Rattle.maid_laws.proofs.Tied.{decision_of}
 use Rattle.std.specs.List.{list_any}
 
@@ -85,9 +85,6 @@ controls_less nodes others less fewer agent x y d n r l m = record {
 module _ (nodes others : List NodeView) (agent x : ℕ) (r : Controls nodes others agent x) (k : (node_at nodes x).kind ≡ Chance) where
   chance_decision : Chance ≡ Decision → ⊥
   chance_decision e = cc
-
-  chance_utility : Chance ≡ Utility → ⊥
-  chance_utility e = cc
 
   decision_utility : Decision ≡ Utility → ⊥
   decision_utility e = cc
@@ -222,7 +219,7 @@ module _ (nodes others : List NodeView) (agent x : ℕ) (r : Controls nodes othe
         at_x : table others q x w ≡ table nodes p x w
         at_x =
             (λ i. table_by (kind_x i) (node_at others x).cells (h.own_weights i) (row_same nodes others r.len states_at parents_at x w i * states_at x i + w x))
-            ∙ sym (at_pos (map nat_abs (node_at nodes x).cells) (cell_of nodes x w))
+            ∙ sym (pos_at (map nat_abs (node_at nodes x).cells) (cell_of nodes x w))
             ∙ ap (λ cs. slice_index_or cs (cell_of nodes x w) (pos 0)) (abs_cells (node_at nodes x).cells (c.table x k).not_negative)
             ∙ (λ i. table_by (sym k i) (node_at nodes x).cells (weights_of p x) (cell_of nodes x w))
 

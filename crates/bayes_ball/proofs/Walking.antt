@@ -220,22 +220,3 @@ module _ (Arc : ℕ → ℕ → Type 0) (Live Given : ℕ → Type 0) (one_way :
 
       walk : (w : Way) → Flows (IsLiveArc Arc Live) Given (FromNodes Start) w v → HasWalk More Lives Given Start w v
       walk w f = flows_marked (walks_closed_below Start) (λ w x s. subst (λ y. HasWalk More Lives Given Start y x) (sym s.0) ([], inl (starts x s.1), s.1, tt)) f
-
-  joined_new : (x : ℕ) → IsJoined More new x → x ≡ v
-  joined_new x (inl (inl a)) = absurd (no_child x a)
-  joined_new x (inl (inr h)) = h.1
-  joined_new x (inr (inl a)) = absurd (no_parent x a)
-  joined_new x (inr (inr h)) = absurd (apart (sym h.1))
-
-  -- a walk from the extra parent begins with a step to v
-  pub from_parent_live : (b : ℕ) → (b ≡ new → ⊥) → IsReachedFromParent Arc Live Given new v b → Live v
-  from_parent_live b ne h = at h.rest h.active h.ends
-    where
-      live_at : (x : ℕ) → IsJoined More new x → Lives x → Live v
-      live_at x j (inl l) = subst Live (joined_new x j) l
-      live_at x j (inr e) = absurd (apart (sym (joined_new x j) ∙ e))
-
-      at : (rest : List ℕ) → IsActive More Lives Given (new ∷ rest) → last_of new rest ≡ b → Live v
-      at [] a e = absurd (ne (sym e))
-      at (x ∷ []) a e = live_at x a.1 a.2
-      at (x ∷ (y ∷ rest)) a e = live_at x a.1 (first_live More Lives Given x (y ∷ rest) a.3)

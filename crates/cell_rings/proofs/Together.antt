@@ -3,7 +3,7 @@ use Rattle.std.proofs.Common.{◌≡◌, ℕ, zero, suc, ◌+◌, ◌*◌, ◌�
 use Rattle.cell_rings.specs.Rings.{Ring, IsRing, IsSize, mass_ring}
 use Rattle.cell_rings.specs.RingLaws.{mass_is_ring, mass_sized}
 use Rattle.cell_rings.specs.Sums.{ring_sum, cell_at, run_sum, two_scaled, two_sizes, four_scaled, four_sizes, AddsTwo, AddsFour, HasRoomForTwo, HasRoomForFour}
-use Rattle.cell_rings.specs.declared.pairs.Pair.{Pair}
+use Rattle.cell_rings.specs.declared.pairs.RunPair.{RunPair}
 use Rattle.cell_rings.proofs.Adding.{nat_sum_le, size_sum, adds_then}
 use Rattle.cell_rings.proofs.Runs.{size_if, two_le}
 
@@ -54,7 +54,7 @@ cells_are_factors laws sizes = record { laws = laws; sizes = sizes; same = λ a.
 
 module _ {C F : Type 0} {r : Ring C} {of : F → C} {size : F → ℕ} (factors : AreFactors r of size) (cells : List C) where
   -- what two runs add to a cell is no larger than the sizes say
-  pub two_size : (pair : Pair F) (i : ℕ) → r.size (two_scaled r of cells pair i) ≤ two_sizes r size cells pair i
+  pub two_size : (pair : RunPair F) (i : ℕ) → r.size (two_scaled r of cells pair i) ≤ two_sizes r size cells pair i
   two_size pair i =
       let x = cell_at r cells (pair.from + i) in
       let y = cell_at r cells (pair.beside + i) in
@@ -62,10 +62,10 @@ module _ {C F : Type 0} {r : Ring C} {of : F → C} {size : F → ℕ} (factors 
       let other = ap (λ s. s * r.size y) (factors.same pair.second) in
       omega (arith, two_le factors.laws factors.sizes (of pair.first) (of pair.second) x y, one, other)
 
-  pub four_size : (one other : Pair F) (i : ℕ) → r.size (four_scaled r of cells one other i) ≤ four_sizes r size cells one other i
+  pub four_size : (one other : RunPair F) (i : ℕ) → r.size (four_scaled r of cells one other i) ≤ four_sizes r size cells one other i
   four_size one other i = omega (arith, factors.sizes.plus (two_scaled r of cells one i) (two_scaled r of cells other i), two_size one i, two_size other i)
 
-  module _ (one other : Pair F) (n at : ℕ) {xs : List C} where
+  module _ (one other : RunPair F) (n at : ℕ) {xs : List C} where
     -- where there is room for both pairs of runs, there is for the first
     pub room_first : HasRoomForFour r size xs at n cells one other → HasRoomForTwo r size xs at n cells one
     room_first room = record {

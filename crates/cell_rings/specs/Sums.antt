@@ -1,7 +1,7 @@
 -- Finite sums and products in a ring, and what is added to a list of cells.
 use Rattle.std.specs.Prelude.{◌≡◌, ◌==◌, if◌then◌else◌, ℕ, zero, suc, ◌+◌, ◌*◌, ◌<◌, ◌≤◌, List, [], ◌∷◌, length, map, slice_index_or}
 use Rattle.cell_rings.specs.Rings.{Ring, mass_ring}
-use Rattle.cell_rings.specs.declared.pairs.Pair.{Pair}
+use Rattle.cell_rings.specs.declared.pairs.RunPair.{RunPair}
 
 -- f 0 + f 1 + .. + f (n - 1)
 abbrev pub ring_sum : {C : Type 0} → Ring C → ℕ → (ℕ → C) → C
@@ -59,28 +59,28 @@ HasRoomForDot r n factor cells from beside =
     ring_sum mass_ring n (dot_sizes r factor cells from beside) ≤ r.most
 
 -- the i-th cells of both runs, each times its factor, added up; a factor is the cell that `of` makes of it
-abbrev pub two_scaled : {C F : Type 0} → Ring C → (F → C) → List C → Pair F → ℕ → C
+abbrev pub two_scaled : {C F : Type 0} → Ring C → (F → C) → List C → RunPair F → ℕ → C
 two_scaled r of cells pair = λ i.
     r.plus (r.times (of pair.first) (cell_at r cells (pair.from + i)))
     (r.times (of pair.second) (cell_at r cells (pair.beside + i)))
 
 -- the most that is by the sizes of the cells and of the factors
-abbrev pub two_sizes : {C F : Type 0} → Ring C → (F → ℕ) → List C → Pair F → ℕ → ℕ
+abbrev pub two_sizes : {C F : Type 0} → Ring C → (F → ℕ) → List C → RunPair F → ℕ → ℕ
 two_sizes r size cells pair = λ i.
     size pair.first * r.size (cell_at r cells (pair.from + i))
     + size pair.second * r.size (cell_at r cells (pair.beside + i))
 
 -- the i-th cells of the four runs of two pairs, each times its factor, added up
-abbrev pub four_scaled : {C F : Type 0} → Ring C → (F → C) → List C → Pair F → Pair F → ℕ → C
+abbrev pub four_scaled : {C F : Type 0} → Ring C → (F → C) → List C → RunPair F → RunPair F → ℕ → C
 four_scaled r of cells one other = λ i.
     r.plus (two_scaled r of cells one i) (two_scaled r of cells other i)
 
 -- the most that is by the sizes of the cells and of the factors
-abbrev pub four_sizes : {C F : Type 0} → Ring C → (F → ℕ) → List C → Pair F → Pair F → ℕ → ℕ
+abbrev pub four_sizes : {C F : Type 0} → Ring C → (F → ℕ) → List C → RunPair F → RunPair F → ℕ → ℕ
 four_sizes r size cells one other = λ i. two_sizes r size cells one i + two_sizes r size cells other i
 
 -- both runs of n cells lie within the list
-abbrev pub AreWithin : {C F : Type 0} → List C → Pair F → ℕ → Type 0
+abbrev pub AreWithin : {C F : Type 0} → List C → RunPair F → ℕ → Type 0
 AreWithin cells pair n = (pair.from + n ≤ length cells) × (pair.beside + n ≤ length cells)
 
 -- the bits of n cells from a place on are below `narrow`
@@ -90,7 +90,7 @@ IsNarrowRun r bits narrow cells from n =
 
 -- those of both runs of n cells are
 abbrev pub IsNarrowPair :
-    {C F : Type 0} → Ring C → (C → ℕ) → ℕ → List C → Pair F → ℕ → Type 0
+    {C F : Type 0} → Ring C → (C → ℕ) → ℕ → List C → RunPair F → ℕ → Type 0
 IsNarrowPair r bits narrow cells pair n =
     IsNarrowRun r bits narrow cells pair.from n × IsNarrowRun r bits narrow cells pair.beside n
 
@@ -114,23 +114,23 @@ AddsOne r factor old new at n cells from =
 
 -- there is room in n cells from `at` on for those of two runs, each times its factor, whose size is `size`
 abbrev pub HasRoomForTwo :
-    {C F : Type 0} → Ring C → (F → ℕ) → List C → ℕ → ℕ → List C → Pair F → Type 0
+    {C F : Type 0} → Ring C → (F → ℕ) → List C → ℕ → ℕ → List C → RunPair F → Type 0
 HasRoomForTwo r size out at n cells pair =
     HasRoom r out (run_sum mass_ring n at (two_sizes r size cells pair))
 
 -- these are added to them; a factor is the cell that `of` makes of it
 abbrev pub AddsTwo :
-    {C F : Type 0} → Ring C → (F → C) → List C → List C → ℕ → ℕ → List C → Pair F → Type 0
+    {C F : Type 0} → Ring C → (F → C) → List C → List C → ℕ → ℕ → List C → RunPair F → Type 0
 AddsTwo r of old new at n cells pair = AddsCells r (run_sum r n at (two_scaled r of cells pair)) old new
 
 -- there is room in n cells from `at` on for those of two pairs of runs, each times its factor
 abbrev pub HasRoomForFour :
-    {C F : Type 0} → Ring C → (F → ℕ) → List C → ℕ → ℕ → List C → Pair F → Pair F → Type 0
+    {C F : Type 0} → Ring C → (F → ℕ) → List C → ℕ → ℕ → List C → RunPair F → RunPair F → Type 0
 HasRoomForFour r size out at n cells one other =
     HasRoom r out (run_sum mass_ring n at (four_sizes r size cells one other))
 
 -- these are added to them
 abbrev pub AddsFour : {C F : Type 0} → Ring C → (F → C) → List C → List C → ℕ → ℕ → List C
-    → Pair F → Pair F → Type 0
+    → RunPair F → RunPair F → Type 0
 AddsFour r of old new at n cells one other =
     AddsCells r (run_sum r n at (four_scaled r of cells one other)) old new

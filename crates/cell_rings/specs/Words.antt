@@ -6,7 +6,7 @@ use Rattle.cell_rings.specs.Sums.{cell_at}
 use Rattle.cell_rings.specs.declared.gains.Gain.{Gain}
 use Rattle.cell_rings.specs.declared.gains.Split.{Split}
 use Rattle.cell_rings.specs.declared.gains.Word.{Word}
-use Rattle.cell_rings.specs.declared.pairs.Pair.{Pair}
+use Rattle.cell_rings.specs.declared.pairs.RunPair.{RunPair}
 use Rattle.cell_rings.specs.declared.small_gains.SmallGain.{SmallGain}
 
 -- half a word: a number from 0 and below 2^32
@@ -26,7 +26,7 @@ abbrev pub AreWords : List Gain → ℕ → ℕ → Type 0
 AreWords cells from n = (i : ℕ) → i < n → FitsWord (cell_at gain_kind cells (from + i))
 
 -- those of both runs of n cells are
-abbrev pub AreWordPair : {F : Type 0} → List Gain → Pair F → ℕ → Type 0
+abbrev pub AreWordPair : {F : Type 0} → List Gain → RunPair F → ℕ → Type 0
 AreWordPair cells pair n = AreWords cells pair.from n × AreWords cells pair.beside n
 
 -- the cell that a number in one word makes
@@ -38,7 +38,7 @@ abbrev pub word_size : Word → ℕ
 word_size a = nat_abs a.value
 
 -- the same runs with both factors in one word
-abbrev pub word_pair : Pair Gain → Pair Word
+abbrev pub word_pair : RunPair Gain → RunPair Word
 word_pair pair = record {
   first = record { value = pair.first.0 };
   second = record { value = pair.second.0 };

@@ -4,7 +4,7 @@ ghost use Rattle.std.specs.Prelude.{◌≡◌, ℕ, ℤ, ◌+◌, ◌*◌, ◌<�
 ghost use Rattle.cell_rings.specs.Sums.{ring_sum, one_sizes, dot_scaled, AreWithin, IsNarrowRun, IsNarrowPair, AddsFour, AddsOne, AddsTwo, HasRoomForDot, HasRoomForFour, HasRoomForOne, HasRoomForTwo};
 ghost use Rattle.cell_rings.specs.Rings.{Ring, IsRing, IsSize};
 
-use crate::pairs::Pair;
+use crate::pairs::RunPair;
 
 /// A cell of a table. `ring` has its two operations and its sizes; a result fits where its size is at most `ring.most`.
 /// The laws, of the operations and of the sizes, are all that the layers above know. A cell is narrow where its `bits` are
@@ -61,7 +61,7 @@ pub trait Cell: Copy {
     }
 
     /// Adds to n cells of the result, from `at` on, the cells of both runs, each times its factor.
-    fn add_two_scaled(out: &mut [Self], at: usize, n: usize, pair: &Pair<Self>, cells: &[Self])
+    fn add_two_scaled(out: &mut [Self], at: usize, n: usize, pair: &RunPair<Self>, cells: &[Self])
         requires out { at + n ≤ length out.old }
         requires cells { AreWithin cells.now pair.now n }
         requires room { HasRoomForTwo ring ring.size out.old at n cells.now pair.now }
@@ -88,7 +88,7 @@ pub trait Cell: Copy {
     }
 
     /// The same as `add_two_scaled`, where the cells of both runs are narrow.
-    fn add_two_narrow(out: &mut [Self], at: usize, n: usize, pair: &Pair<Self>, cells: &[Self])
+    fn add_two_narrow(out: &mut [Self], at: usize, n: usize, pair: &RunPair<Self>, cells: &[Self])
         requires out { at + n ≤ length out.old }
         requires cells { AreWithin cells.now pair.now n }
         requires narrow { IsNarrowPair ring bits narrow cells.now pair.now n }
@@ -103,8 +103,8 @@ pub trait Cell: Copy {
         out: &mut [Self],
         at: usize,
         n: usize,
-        one: &Pair<Self>,
-        other: &Pair<Self>,
+        one: &RunPair<Self>,
+        other: &RunPair<Self>,
         cells: &[Self],
     )
         requires out { at + n ≤ length out.old }

@@ -8,7 +8,7 @@ ghost use Rattle.cell_rings.specs.KindLaws.{most_has_room, gain_laws, gain_sizes
 ghost use Rattle.cell_rings.specs.Kinds.{gain_kind, as_gain};
 
 use crate::cells::Cell;
-use crate::pairs::Pair;
+use crate::pairs::RunPair;
 
 /// A whole number with a sign.
 #[derive(Clone, Copy, Debug, PartialEq, Eq)]
@@ -59,9 +59,9 @@ impl Cell for Gain {
         Gain(self.0 * other.0)
     }
 
-    fn add_two_scaled(out: &mut [Gain], at: usize, n: usize, pair: &Pair<Gain>, cells: &[Gain]) {
+    fn add_two_scaled(out: &mut [Gain], at: usize, n: usize, pair: &RunPair<Gain>, cells: &[Gain]) {
         if is_short(pair.first) && is_short(pair.second) {
-            let short = Pair {
+            let short = RunPair {
                 first: pair.first.0 as u64,
                 second: pair.second.0 as u64,
                 from: pair.from,
@@ -80,11 +80,11 @@ impl Cell for Gain {
         are_words(cells, from, n)
     }
 
-    fn add_two_narrow(out: &mut [Gain], at: usize, n: usize, pair: &Pair<Gain>, cells: &[Gain]) {
+    fn add_two_narrow(out: &mut [Gain], at: usize, n: usize, pair: &RunPair<Gain>, cells: &[Gain]) {
         if has_words(*pair) {
             add_two_words(out, at, n, in_word_pair(*pair), cells)
         } else {
-            let split = Pair {
+            let split = RunPair {
                 first: in_words(pair.first),
                 second: in_words(pair.second),
                 from: pair.from,
@@ -98,8 +98,8 @@ impl Cell for Gain {
         out: &mut [Gain],
         at: usize,
         n: usize,
-        one: &Pair<Gain>,
-        other: &Pair<Gain>,
+        one: &RunPair<Gain>,
+        other: &RunPair<Gain>,
         cells: &[Gain],
     ) {
         if has_words(*one) && has_words(*other) {
@@ -119,7 +119,7 @@ fn is_short(a: Gain) -> bool
 }
 
 /// Both products and their sum added to each cell of the run.
-fn add_two_long(out: &mut [Gain], at: usize, n: usize, pair: Pair<Gain>, cells: &[Gain])
+fn add_two_long(out: &mut [Gain], at: usize, n: usize, pair: RunPair<Gain>, cells: &[Gain])
     requires out { at + n ≤ length out.old }
     requires cells { AreWithin cells.now pair n }
     requires room { HasRoomForTwo gain_kind gain_kind.size out.old at n cells.now pair }
@@ -136,7 +136,7 @@ fn add_two_long(out: &mut [Gain], at: usize, n: usize, pair: Pair<Gain>, cells: 
 
 /// The same where both factors are below 2^64, with two products of 64 bits in place of three.
 #[inline(never)]
-fn add_two_short(out: &mut [Gain], at: usize, n: usize, pair: Pair<u64>, cells: &[Gain])
+fn add_two_short(out: &mut [Gain], at: usize, n: usize, pair: RunPair<u64>, cells: &[Gain])
     requires out { at + n ≤ length out.old }
     requires cells { AreWithin cells.now pair n }
     requires room { HasRoomForTwo gain_kind (λ f. f) out.old at n cells.now pair }
@@ -153,7 +153,7 @@ fn add_two_short(out: &mut [Gain], at: usize, n: usize, pair: Pair<u64>, cells: 
 
 /// The same where all absolute values are below 2^63, with one product of 64 bits.
 #[inline(never)]
-fn add_two_words(out: &mut [Gain], at: usize, n: usize, pair: Pair<Word>, cells: &[Gain])
+fn add_two_words(out: &mut [Gain], at: usize, n: usize, pair: RunPair<Word>, cells: &[Gain])
     requires out { at + n ≤ length out.old }
     requires cells { AreWithin cells.now pair n }
     requires narrow { AreWordPair cells.now pair n }
@@ -171,8 +171,8 @@ fn add_four_words(
     out: &mut [Gain],
     at: usize,
     n: usize,
-    one: Pair<Word>,
-    other: Pair<Word>,
+    one: RunPair<Word>,
+    other: RunPair<Word>,
     cells: &[Gain],
 )
     requires out { at + n ≤ length out.old }
@@ -191,7 +191,7 @@ fn add_four_words(
 /// The same where the cells' absolute values are below 2^63 and the factors are any, with two products of 64 bits in
 /// place of three.
 #[inline(never)]
-fn add_two_split(out: &mut [Gain], at: usize, n: usize, pair: Pair<Split>, cells: &[Gain])
+fn add_two_split(out: &mut [Gain], at: usize, n: usize, pair: RunPair<Split>, cells: &[Gain])
     requires out { at + n ≤ length out.old }
     requires cells { AreWithin cells.now pair n }
     requires narrow { AreWordPair cells.now pair n }
@@ -272,18 +272,18 @@ fn in_word(a: Gain) -> Word
 }
 
 /// Whether the absolute values of both factors are below 2^63.
-fn has_words(pair: Pair<Gain>) -> bool
+fn has_words(pair: RunPair<Gain>) -> bool
     ensures { IsTrue result ↔ (FitsWord pair.first × FitsWord pair.second) }
 {
     is_word(pair.first) && is_word(pair.second)
 }
 
 /// The runs with their factors in one word each.
-fn in_word_pair(pair: Pair<Gain>) -> Pair<Word>
+fn in_word_pair(pair: RunPair<Gain>) -> RunPair<Word>
     requires { FitsWord pair.first × FitsWord pair.second }
     ensures { result ≡ word_pair pair }
 {
-    Pair {
+    RunPair {
         first: in_word(pair.first),
         second: in_word(pair.second),
         from: pair.from,
@@ -292,7 +292,7 @@ fn in_word_pair(pair: Pair<Gain>) -> Pair<Word>
 }
 
 /// The i-th cells of both runs, each times its factor, added up.
-fn word_sum(pair: Pair<Word>, cells: &[Gain], i: usize) -> Gain
+fn word_sum(pair: RunPair<Word>, cells: &[Gain], i: usize) -> Gain
     requires cells { AreWithin cells.now pair (i + 1) }
     requires narrow { AreWordPair cells.now pair (i + 1) }
     requires room { two_sizes gain_kind word_size cells.now pair i ≤ gain_kind.most }

@@ -19,6 +19,6 @@ pub use cells::Cell;
 pub use gains::Gain;
 pub use laws::{four_rings, kinds_are_numbers};
 pub use masses::Mass;
-pub use pairs::Pair;
+pub use pairs::RunPair;
 pub use small_gains::SmallGain;
 pub use small_masses::SmallMass;

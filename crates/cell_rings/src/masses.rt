@@ -6,7 +6,7 @@ ghost use Rattle.cell_rings.specs.KindLaws.{most_has_room, mass_laws, mass_sizes
 ghost use Rattle.cell_rings.specs.Kinds.{mass_kind, mass_of};
 
 use crate::cells::Cell;
-use crate::pairs::Pair;
+use crate::pairs::RunPair;
 
 /// A whole number from 0.
 #[derive(Clone, Copy, Debug, PartialEq, Eq)]
@@ -57,9 +57,9 @@ impl Cell for Mass {
         Mass(self.0 * other.0)
     }
 
-    fn add_two_scaled(out: &mut [Mass], at: usize, n: usize, pair: &Pair<Mass>, cells: &[Mass]) {
+    fn add_two_scaled(out: &mut [Mass], at: usize, n: usize, pair: &RunPair<Mass>, cells: &[Mass]) {
         if pair.first.0 >> 64 == 0 && pair.second.0 >> 64 == 0 {
-            let short = Pair {
+            let short = RunPair {
                 first: pair.first.0 as u64,
                 second: pair.second.0 as u64,
                 from: pair.from,
@@ -73,7 +73,7 @@ impl Cell for Mass {
 }
 
 /// Both products and their sum added to each cell of the run.
-fn add_two_long(out: &mut [Mass], at: usize, n: usize, pair: Pair<Mass>, cells: &[Mass])
+fn add_two_long(out: &mut [Mass], at: usize, n: usize, pair: RunPair<Mass>, cells: &[Mass])
     requires out { at + n ≤ length out.old }
     requires cells { AreWithin cells.now pair n }
     requires room { HasRoomForTwo mass_kind mass_kind.size out.old at n cells.now pair }
@@ -90,7 +90,7 @@ fn add_two_long(out: &mut [Mass], at: usize, n: usize, pair: Pair<Mass>, cells: 
 
 /// The same where both factors are below 2^64, with two products of 64 bits in place of three.
 #[inline(never)]
-fn add_two_short(out: &mut [Mass], at: usize, n: usize, pair: Pair<u64>, cells: &[Mass])
+fn add_two_short(out: &mut [Mass], at: usize, n: usize, pair: RunPair<u64>, cells: &[Mass])
     requires out { at + n ≤ length out.old }
     requires cells { AreWithin cells.now pair n }
     requires room { HasRoomForTwo mass_kind (λ f. f) out.old at n cells.now pair }

@@ -2,7 +2,7 @@
 
 /// Two runs of neighbouring cells, each with its factor.
 #[derive(Clone, Copy)]
-pub struct Pair<F> {
+pub struct RunPair<F> {
     pub first: F,
     pub second: F,
     /// The place at which the run of the first factor begins.

@@ -8,7 +8,7 @@ ghost use Rattle.cell_rings.specs.KindLaws.{small_has_room, small_gain_laws, sma
 ghost use Rattle.cell_rings.specs.Kinds.{small_gain_kind, small_gain_of};
 
 use crate::cells::Cell;
-use crate::pairs::Pair;
+use crate::pairs::RunPair;
 
 /// A whole number with a sign, where a bound keeps every sum below 2^63.
 #[derive(Clone, Copy, Debug, PartialEq, Eq)]
@@ -70,7 +70,7 @@ impl Cell for SmallGain {
         out: &mut [SmallGain],
         at: usize,
         n: usize,
-        pair: &Pair<SmallGain>,
+        pair: &RunPair<SmallGain>,
         cells: &[SmallGain],
     ) {
         if is_half(bits_of(pair.first)) && is_half(bits_of(pair.second)) {
@@ -86,7 +86,7 @@ fn add_two_long(
     out: &mut [SmallGain],
     at: usize,
     n: usize,
-    pair: Pair<SmallGain>,
+    pair: RunPair<SmallGain>,
     cells: &[SmallGain],
 )
     requires out { at + n ≤ length out.old }
@@ -109,7 +109,7 @@ fn add_two_halves(
     out: &mut [SmallGain],
     at: usize,
     n: usize,
-    pair: Pair<SmallGain>,
+    pair: RunPair<SmallGain>,
     cells: &[SmallGain],
 )
     requires out { at + n ≤ length out.old }

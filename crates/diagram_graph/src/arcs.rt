@@ -2,6 +2,7 @@
 
 ghost use Rattle.std.specs.Prelude.{◌≡◌, ◌<◌, ◌↔◌, ◌==◌, not, filter, length, IfOk, IsErrOf};
 ghost use Rattle.maid_model.specs.Edits.{without_arc};
+ghost use Rattle.maid_model.specs.Graph.{Arc};
 ghost use Rattle.maid_model.specs.Nodes.{IsDecision};
 ghost use Rattle.diagram_graph.specs.Edited.{IsWithNodes, LacksArc, without_parent};
 
@@ -74,4 +75,26 @@ pub fn remove_arc(
     let mut nodes = copy_nodes(alloc, diagram)?;
     drop_arc(&mut nodes, from, to);
     Ok(with_nodes(diagram, nodes))
+}
+
+/// The diagram without an arc that is there, as `remove_arc` gives it.
+///
+/// # Errors
+///
+/// Only where memory runs out.
+pub fn without_arc(
+    alloc: Global,
+    diagram: &Diagram,
+    from: usize,
+    to: usize,
+) -> Result<Diagram, AllocError>
+    requires decision { IsDecision diagram.now.nodes to }
+    requires arc { Arc diagram.now.nodes from to }
+    ensures { IfOk result (IsWithNodes diagram.now (without_arc diagram.now.nodes from to)) }
+{
+    match remove_arc(alloc, diagram, from, to) {
+        Ok(less) => Ok(less),
+        Err(RemoveFault::NotPresent) => unreachable!(),
+        Err(RemoveFault::NoMemory) => Err(AllocError),
+    }
 }

@@ -1,5 +1,5 @@
 -- One step of a plan: what it asks is there, and what it makes leads on.
-use Rattle.std.proofs.Common.{◌≡◌, ◌∙◌, ℕ, ◌+◌, ◌<◌, ◌≤◌, Bool, not, ◌&&◌, ◌||◌, eqb, map, List, [], ◌∷◌, length, drop, slice_index, drop-cons, suc, refl, sym, ap, subst, arith}
+use Rattle.std.proofs.Common.{◌≡◌, ◌∙◌, ℕ, ◌+◌, ◌<◌, ◌≤◌, not, ◌&&◌, eqb, List, [], ◌∷◌, length, drop, slice_index, drop-cons, suc, sym, ap, subst, arith}
 use Rattle.std.specs.List.{list_any, AllZip}
 use Rattle.std.proofs.Math.Path.{fun_ext}
 use Rattle.node_sets.specs.Sets.{holds}
@@ -10,7 +10,7 @@ use Rattle.cell_rings.specs.Rings.{Ring, IsRing}
 use Rattle.ring_sums.specs.Groups.{JoinFits}
 use Rattle.ring_sums.specs.Tables.{Table, IsSame, with_node, without_node, sum_out, eliminate_one, scopes_of, joined_without, scopes_one}
 use Rattle.ring_sums.proofs.Each.{zip_filter}
-use Rattle.ring_sums.proofs.Same.{map_filter, same_out, fits_same, holds_same, makes_scopes_at}
+use Rattle.ring_sums.proofs.Same.{any_map, fits_same, holds_same, makes_scopes_at, map_filter, same_out}
 use Rattle.factor_core.specs.declared.slots.Slot.{Slot}
 use Rattle.factor_core.specs.Slots.{WorkspaceView, cells_over, IsLiveSlot, table_of, tables_of}
 use Rattle.size_precheck.specs.Greedy.{holding}
@@ -20,10 +20,6 @@ use Rattle.eliminate.specs.Steps.{slots_with, slots_without, PutsTable, CanJoinO
 use Rattle.eliminate.proofs.Sizes.{cells_exact}
 use Rattle.eliminate.proofs.Standing.{map_length, more_stands}
 use Rattle.eliminate.proofs.Stepping.{all_filter}
-
-pub any_map : {X Y : Type 0} (p : Y → Bool) (f : X → Y) (xs : List X) → list_any p (map f xs) ≡ list_any (λ x. p (f x)) xs
-any_map p f [] = refl
-any_map p f (x ∷ xs) = ap (λ b. p (f x) || b) (any_map p f xs)
 
 -- the scope that the plan's count sees is that of the table that is made
 pub made_scope : {C : Type 0} (r : Ring C) (count : ℕ → ℕ) (v : ℕ) (ts : List (Table C)) → joined_without v (holding v (scopes_of ts)) ≡ (sum_out r count v (with_node v ts)).holds

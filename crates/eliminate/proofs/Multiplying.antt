@@ -9,12 +9,12 @@ use Rattle.maid_model.specs.declared.limits.TheConstants.{MOST_PLAN_CELLS}
 use Rattle.maid_model.specs.Views.{NodeView}
 use Rattle.cell_rings.specs.Rings.{Ring}
 use Rattle.ring_sums.specs.Tables.{Table, joined}
+use Rattle.ring_sums.proofs.Same.{any_map}
 use Rattle.factor_core.specs.declared.slots.Slot.{Slot}
 use Rattle.factor_core.specs.Slots.{WorkspaceView, cells_over, table_of, tables_of, HasSpareForProduct}
 use Rattle.size_precheck.specs.Counts.{counted_cells}
 use Rattle.eliminate.specs.declared.counts.Limits.{Limits}
 use Rattle.eliminate.specs.Limits.{SpendsProduct, IsProductTooMuch, scopes_at, product_cells, product_work}
-use Rattle.eliminate.proofs.Going.{any_map}
 use Rattle.eliminate.proofs.Sizes.{cells_exact}
 use Rattle.eliminate.proofs.Within.{one_passes}
 

@@ -8,7 +8,7 @@ use Rattle.maid_model.specs.Views.{NodeView}
 use Rattle.node_sets.specs.declared.sets.NodeSet.{NodeSet}
 use Rattle.node_sets.specs.Sets.{holds, IsIn}
 use Rattle.plan_sums.specs.Plans.{mass_cells, has}
-use Rattle.ring_sums.proofs.Same.{map_filter}
+use Rattle.ring_sums.proofs.Same.{any_map, map_filter}
 use Rattle.factor_core.specs.declared.slots.Slot.{Slot}
 use Rattle.factor_core.specs.Operations.{first_table}
 use Rattle.factor_core.proofs.Scoping.{joined_is}
@@ -16,7 +16,6 @@ use Rattle.size_precheck.specs.Counts.{counted_cells}
 use Rattle.size_precheck.specs.Greedy.{holding, joined_set}
 use Rattle.eliminate.specs.Limits.{scopes_at, step_cells, step_work}
 use Rattle.eliminate.specs.Steps.{slots_with}
-use Rattle.eliminate.proofs.Going.{any_map}
 use Rattle.eliminate.proofs.Standing.{map_length}
 use Rattle.finite_sums.specs.Members.{Among}
 use Rattle.plan_sums.proofs.Filters.{has_yes, has_member}

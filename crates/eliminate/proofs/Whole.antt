@@ -19,7 +19,7 @@ use Rattle.plan_sums.specs.Plans.{Cells, PlanView, mass_cells, has, node_table, 
 use Rattle.plan_sums.specs.Sizes.{AreSized, IsPlan}
 use Rattle.plan_sums.proofs.Looks.{runs_plans}
 use Rattle.plan_sums.proofs.Scopes.{plans_keep}
-use Rattle.plan_sums.proofs.Sized.{plans_fit, plans_hold, ruled_in, in_plan_kind}
+use Rattle.plan_sums.proofs.Sized.{in_plan_kind, map_same, plans_fit, plans_hold, ruled_in}
 use Rattle.factor_core.specs.declared.slots.Slot.{Slot}
 use Rattle.factor_core.specs.Operations.{first_table, product_table}
 use Rattle.factor_core.specs.Slots.{WorkspaceView, cells_over, tables_of, Appends, AppendsProduct}
@@ -35,9 +35,6 @@ use Rattle.eliminate.proofs.Sizes.{cells_exact, sum_exact, sums_exact}
 use Rattle.eliminate.proofs.Standing.{more_stands}
 
 -- ---- lists
-map_same : {Y : Type 0} (f g : ℕ → Y) (xs : List ℕ) → ((v : ℕ) → Among v xs → f v ≡ g v) → map f xs ≡ map g xs
-map_same f g [] h = refl
-map_same f g (x ∷ xs) h = (λ i. h x (inl refl) i ∷ map_same f g xs (λ v m. h v (inr m)) i)
 
 map_map : {X Y Z : Type 0} (f : X → Y) (g : Y → Z) (xs : List X) → map g (map f xs) ≡ map (λ x. g (f x)) xs
 map_map f g [] = refl

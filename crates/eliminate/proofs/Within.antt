@@ -11,7 +11,7 @@ use Rattle.node_sets.specs.declared.sets.NodeSet.{NodeSet}
 use Rattle.node_sets.specs.Sets.{holds}
 use Rattle.cell_rings.specs.Rings.{Ring, IsRing}
 use Rattle.ring_sums.specs.Tables.{Table, IsSame, joined, product_of, scopes_of}
-use Rattle.ring_sums.proofs.Same.{fits_same, same_product}
+use Rattle.ring_sums.proofs.Same.{any_map, fits_same, same_product}
 use Rattle.plan_sums.specs.Plans.{Cells, mass_cells}
 use Rattle.factor_core.specs.declared.slots.Slot.{Slot}
 use Rattle.factor_core.specs.Operations.{first_table}
@@ -23,7 +23,7 @@ use Rattle.eliminate.specs.Limits.{ListsWithin, IsFirstScope, Spends, SpendsStep
 use Rattle.eliminate.specs.Results.{tables_at, tables_left, FindTables, SumsFit, SumsTables, Grows, IsTooMuch}
 use Rattle.eliminate.specs.Steps.{PutsTable, GiveWay, CanJoinOut, Stand, Between, first_cells}
 use Rattle.eliminate.proofs.Growing.{grows_by}
-use Rattle.eliminate.proofs.Going.{any_map, can_join_here, goes_on_here, spent_here, scopes_here}
+use Rattle.eliminate.proofs.Going.{can_join_here, goes_on_here, spent_here, scopes_here}
 use Rattle.eliminate.proofs.Standing.{map_length}
 use Rattle.eliminate.proofs.Sizes.{cells_exact, counted_below}
 use Rattle.eliminate.proofs.Starting.{lists_none, lists_more}

@@ -1,13 +1,12 @@
 //! Limits on cells and work, and what is left of them.
 
-ghost use Rattle.std.specs.Prelude.{◌≡◌, ◌*◌, ℕ};
-ghost use Rattle.std.specs.List.{list_any};
+ghost use Rattle.std.specs.Prelude.{◌≡◌, ◌*◌};
 ghost use Rattle.maid_model.specs.Nodes.{counts_of};
 ghost use Rattle.node_sets.specs.Sets.{holds};
 ghost use Rattle.size_precheck.specs.Counts.{counted_cells};
 ghost use Rattle.eliminate.specs.Limits.{Spends};
 
-use factor_core::{Slot, StateCounts};
+use factor_core::StateCounts;
 use maid_model::{COUNT_END, Diagram};
 use node_sets::NodeSet;
 
@@ -38,17 +37,6 @@ pub fn count_cells(diagram: &Diagram, counts: &StateCounts, scope: &NodeSet) -> 
         next = v + 1;
     }
     cells
-}
-
-/// The nodes of the slots.
-pub fn united_scope(slots: &[Slot]) -> NodeSet
-    ensures { (v : ℕ) → holds result v ≡ list_any (λ s. holds s.scope v) slots.now }
-{
-    let mut scope = NodeSet::empty();
-    for slot in slots {
-        scope = scope.union(&slot.scope);
-    }
-    scope
 }
 
 /// What is left after a table of so many cells, for which a join of so many cells goes over so many tables.

@@ -14,13 +14,13 @@ ghost use Rattle.eliminate.specs.Places.{slots_at, IsBlank, IsBoard};
 ghost use Rattle.eliminate.specs.Steps.{NumbersFitIn};
 ghost use Rattle.eliminate.specs.Results.{Grows, FindTablesIn, NoneIffTooMuch, SumsFitIn, SumsIfSome};
 
-use crate::counts::{Limits, count_cells, spend, united_scope};
+use crate::counts::{Limits, count_cells, spend};
 use crate::firsts::{Play, put_table};
 use crate::lists::{before, blank_slot};
 use crate::places::{Places, all_live, gather, gather_live, no_places, places_of};
 use crate::runs::{FEW, SHORT, eliminate};
 use cell_rings::Cell;
-use factor_core::{Slot, StateCounts, Workspace};
+use factor_core::{Slot, StateCounts, Workspace, united_scope};
 use maid_model::{Diagram, Kind, Profile};
 use node_sets::{MOST_NODES, NodeSet};
 

@@ -4,7 +4,6 @@ mod HandedOn
 mod Left
 mod Listed
 mod Measured
-mod Naturals
 mod PlanCells
 mod Planned
 mod Products

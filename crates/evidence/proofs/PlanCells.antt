@@ -1,12 +1,11 @@
 -- The plans that keep x: their numbers fit, and that without a utility sums to a mass.
 use Rattle.std.proofs.Common.{◌≡◌, ◌∙◌, ℕ, ◌*◌, ◌^◌, ◌<◌, ◌≤◌, max, ◌&&◌, List, Some, None, length, refl, sym, ap, inl, arith, ℤ, pos, nat_abs}
-use Rattle.std.proofs.Math.Nat.{mul-le-mul}
 use Rattle.cell_rings.specs.RingLaws.{gain_is_ring, mass_is_ring, mass_to_gain}
 use Rattle.cell_rings.specs.Rings.{gain_ring, most_size}
 use Rattle.finite_sums.specs.Sums.{World, nat_product_over}
 use Rattle.finite_sums.proofs.Members.{any_is, contains_from_among, filter_has}
 use Rattle.maid_model.specs.declared.diagrams.Kind.TheVariants.{Chance, Utility}
-use Rattle.maid_model.specs.Diagrams.{IsDiagram, greatest_number}
+use Rattle.maid_model.specs.Diagrams.{IsDiagram}
 use Rattle.maid_model.specs.Gains.{greatest_abs}
 use Rattle.maid_model.specs.Nodes.{Owns, is_utility, is_utility_of, node_at, numbers_of, owners_of}
 use Rattle.maid_model.specs.Profiles.{IsProfile}
@@ -20,12 +19,11 @@ use Rattle.plan_sums.specs.Plans.{Cells, gain_cells, mass_cells, plan_sum, ruled
 use Rattle.plan_sums.proofs.Products.{maps_plans}
 use Rattle.eliminate.specs.Results.{plan_total}
 use Rattle.weight_scale.specs.Given.{product_given}
+use Rattle.scope_sums.proofs.Shares.{one_of_greatest, scale_some, tables_fit}
 use Rattle.evidence.specs.Bounds.{KeepsBoundsGiven, further_scopes}
 use Rattle.evidence.specs.Sizes.{plan_given}
 use Rattle.evidence.specs.Stakes.{chances_lacking}
-use Rattle.evidence.proofs.StakeLemmas.{one_of_greatest, scale_some}
 use Rattle.evidence.proofs.Within.{alone_inside, lacking_positive, tables_within, utility_inside}
-use Rattle.evidence.proofs.Naturals.{part_of_product}
 
 -- ---- masses as numbers
 -- masses as numbers with a sign, where no value counts
@@ -37,23 +35,6 @@ pub mass_number : (nodes : List NodeView) (p : List RuleView) (x : ℕ) (q : Wor
 mass_number nodes p x q = ap nat_abs (sym (maps_plans mass_cells signed_masses mass_is_ring gain_is_ring pos (record { ring = mass_to_gain; weight = λ w. refl; value = λ v. refl }) nodes p (plan_given x None) q))
 
 -- ---- numbers that fit
--- twice what is within the bound is within 128 bits
-twice : (n : ℕ) → n ≤ greatest_number → 2 * n ≤ most_size
-twice n h = omega (arith, h)
-
--- tables within P, and a utility within S: together within the bound
-tables_fit : (tables missing product scale utility all : ℕ) → 0 < missing → tables * missing ≤ product → 0 < scale → utility ≤ all → product * max scale all ≤ greatest_number → 2 * (tables * max 1 utility) ≤ most_size
-tables_fit tables missing product scale utility all some within one less bound =
-    let few : tables ≤ product = part_of_product tables missing product some within in
-    let value : max 1 utility ≤ max scale all = greater utility scale all one less in
-    twice (tables * max 1 utility) (chain _ _ (mul-le-mul few value) bound)
-  where
-    greater : (u s a : ℕ) → 0 < s → u ≤ a → max 1 u ≤ max s a
-    greater u s a h k = omega (arith, h, k)
-
-    chain : (a b : ℕ) → a ≤ b → b ≤ greatest_number → a ≤ greatest_number
-    chain a b h k = omega (arith, h, k)
-
 module _ (d : DiagramView) (p : List RuleView) (x : ℕ) (is : IsDiagram d) (within : x < length d.nodes) (profile : IsProfile d.nodes p) (unit : HasUnitRules d.nodes p) (keeps : KeepsBoundsGiven d x) where
   -- a further scope for each agent, and at least one
   pub agent_within : (agent : ℕ) → agent < d.agents → agent < further_scopes d

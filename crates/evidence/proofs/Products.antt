@@ -17,6 +17,7 @@ use Rattle.cell_rings.specs.RingLaws.{mass_is_ring}
 use Rattle.part_laws.proofs.ScopeBounds.{chances_positive}
 use Rattle.plan_sums.specs.Plans.{PlanView, in_plan}
 use Rattle.scope_sums.specs.Missing.{lacking_in}
+use Rattle.scope_sums.proofs.Shares.{tested_product}
 use Rattle.evidence.specs.Stakes.{chances_in}
 
 -- ---- the first factors
@@ -65,17 +66,6 @@ module _ (nodes : List NodeView) (set : NodeSet) where
       some false v = omega arith
 
 -- ---- what a plan lacks
--- a product over the members that pass a test
-tested_product : (f : ℕ → ℕ) (q : ℕ → Bool) (vs : List ℕ) → nat_product_over f (filter q vs) ≡ nat_product_over (λ v. cond (q v) (f v) 1) vs
-tested_product f q [] = refl
-tested_product f q (v ∷ vs) = go (q v) (tested_product f q vs)
-  where
-    one_times : (n : ℕ) → n ≡ 1 * n
-    one_times n = omega arith
-
-    go : (b : Bool) → nat_product_over f (filter q vs) ≡ nat_product_over (λ u. cond (q u) (f u) 1) vs → nat_product_over f (cond b (v ∷ filter q vs) (filter q vs)) ≡ cond b (f v) 1 * nat_product_over (λ u. cond (q u) (f u) 1) vs
-    go true h = ap (λ n. f v * n) h
-    go false h = h ∙ one_times (nat_product_over (λ u. cond (q u) (f u) 1) vs)
 
 -- the same factors at each member
 same_product : (f h : ℕ → ℕ) (vs : List ℕ) → ((v : ℕ) → Among v vs → f v ≡ h v) → nat_product_over f vs ≡ nat_product_over h vs

@@ -22,9 +22,9 @@ use Rattle.maid_laws.proofs.Ranks.{past_end}
 use Rattle.maid_laws.proofs.Rearranged.{numbered}
 use Rattle.diagram_graph.specs.Room.{cells_at, rule_cells, rule_cells_at}
 use Rattle.reach_laws.specs.Evidence.{IsEvidence, SeenEverywhere, all_seeing, all_seeing_diagram, seeing}
+use Rattle.scope_sums.proofs.Shares.{passing_sizes}
 use Rattle.evidence.specs.Rules.{KeepsRules}
 use Rattle.evidence.specs.Sights.{HasOwnCells, KeepsOwnRule, adds}
-use Rattle.evidence.proofs.Naturals.{passing_sizes}
 
 -- the test of a decision
 pub kind_of : (k : Kind) → is_decision k ≡ true → k ≡ Decision
@@ -73,9 +73,6 @@ module _ (nodes : List NodeView) (x : ℕ) where
 
   pub decision_there : (v : ℕ) → IsDecision nodes v → IsDecision others v
   decision_there v k = record { within = subst (λ n. v < n) (sym count_same) k.within; kind = kind_same v ∙ k.kind }
-
-  pub decision_back : (v : ℕ) → IsDecision others v → IsDecision nodes v
-  decision_back v k = record { within = subst (λ n. v < n) count_same k.within; kind = sym (kind_same v) ∙ k.kind }
 
   -- the parents
   parents_by : (v : ℕ) (b : Bool) → adds nodes x v ≡ b → parents_of others v ≡ cond b (parents_of nodes v ++ x ∷ []) (parents_of nodes v)
@@ -129,26 +126,8 @@ module _ (nodes : List NodeView) (x : ℕ) where
   pub adds_cells : (v : ℕ) → IsDecision others v → cells_at others v ≡ rule_cells_at others v
   adds_cells v k = ap (λ b. cond b (cells_at others v) 0) (sym (ap is_decision k.kind))
 
-  pub adds_no_cells : (v : ℕ) → ((node_at nodes v).kind ≡ Decision → ⊥) → 0 ≡ rule_cells_at others v
-  adds_no_cells v n = go (is_decision (node_at others v).kind) (λ e. n (sym (kind_same v) ∙ kind_of (node_at others v).kind e))
-    where
-      go : (b : Bool) → (b ≡ true → ⊥) → 0 ≡ cond b (cells_at others v) 0
-      go true h = absurd (h refl)
-      go false h = refl
-
 -- ---- one rule
 module _ (d : DiagramView) (x : ℕ) (is : IsDiagram d) (v : ℕ) where
-  not_decision : ((node_at d.nodes v).kind ≡ Decision → ⊥) → IsDecision (all_seeing d.nodes x) v → ⊥
-  not_decision n k = n (decision_back d.nodes x v k).kind
-
-  -- of another node
-  pub own_none : ((node_at d.nodes v).kind ≡ Decision → ⊥) → HasOwnCells (all_seeing d.nodes x) v 0
-  own_none n = record {
-    keeps = record { parents = λ k. absurd (not_decision n k); cells = λ k. absurd (not_decision n k) };
-    is = adds_no_cells d.nodes x v n;
-    few = omega arith;
-  }
-
   -- of a decision that sees x
   pub own_same : IsDecision d.nodes v → adds d.nodes x v ≡ false → (cells : ℕ) → cells ≡ cells_at d.nodes v → HasOwnCells (all_seeing d.nodes x) v cells
   own_same k e cells c = record {
@@ -174,12 +153,6 @@ module _ (d : DiagramView) (x : ℕ) (is : IsDiagram d) (v : ℕ) where
       where
         one_more : (n : ℕ) → n < MOST_PARENTS → n + 1 ≤ MOST_PARENTS
         one_more n h = omega (arith, h)
-
-    pub many_parents : MOST_PARENTS ≤ length (parents_of d.nodes v) → KeepsOwnRule (all_seeing d.nodes x) v → ⊥
-    many_parents h keeps = clash _ _ h (subst (λ n. n ≤ MOST_PARENTS) (parents_more d.nodes x v e) (keeps.parents (decision_there d.nodes x v k)))
-      where
-        clash : (m n : ℕ) → m ≤ n → n + 1 ≤ m → ⊥
-        clash m n h l = omega (arith, h, l)
 
     pub many_cells : (cells : ℕ) → cells ≡ cells_at d.nodes v * states_of d.nodes x → MOST_CELLS < cells → KeepsOwnRule (all_seeing d.nodes x) v → ⊥
     many_cells cells c h keeps = clash _ _ h (subst (λ n. n ≤ MOST_CELLS) (cells_more d.nodes x v e ∙ sym c) (keeps.cells (decision_there d.nodes x v k)))
@@ -210,9 +183,6 @@ pub record AddsUp (nodes : List NodeView) (n cells : ℕ) : Type 0 where
   pub is : cells ≡ nat_sum_over (rule_cells_at nodes) (range_with_len 0 n)
   pub few : cells ≤ n * MOST_CELLS
   pub each : (d : ℕ) → d < n → KeepsOwnRule nodes d
-
-pub adds_none_yet : (nodes : List NodeView) → AddsUp nodes 0 0
-adds_none_yet nodes = record { is = refl; few = omega arith; each = λ d l. absurd (omega (arith, l)) }
 
 pub adds_next : (nodes : List NodeView) (n cells more : ℕ) → AddsUp nodes n cells → HasOwnCells nodes n more → AddsUp nodes (n + 1) (cells + more)
 adds_next nodes n cells more sum own = record {
@@ -260,10 +230,6 @@ rules_kept nodes cells sum few = record {
 
 pub rules_told : (nodes : List NodeView) (cells : ℕ) → AddsUp nodes (length nodes) cells → KeepsRules nodes → cells ≤ MOST_RULE_CELLS
 rules_told nodes cells sum keeps = subst (λ n. n ≤ MOST_RULE_CELLS) (sym (sum.is ∙ rule_cells_are nodes)) (rules_small nodes keeps)
-
--- and each rule does
-pub each_kept : (nodes : List NodeView) (v : ℕ) → KeepsRules nodes → KeepsOwnRule nodes v
-each_kept nodes v keeps = record { parents = λ k. (keeps.each v k).parents; cells = λ k. (keeps.each v k).cells }
 
 -- ---- it is a diagram
 module _ (law : SeenEverywhere) (d : DiagramView) (x : ℕ) (is : IsDiagram d) (evidence : IsEvidence d.nodes x) (keeps : KeepsRules (all_seeing d.nodes x)) where

@@ -1,102 +1,27 @@
 -- What an agent's utilities give to its gain, and the gain itself, in 128 bits.
-use Rattle.std.proofs.Common.{◌≡◌, ◌∙◌, ℕ, zero, suc, ◌+◌, ◌*◌, ◌^◌, ◌<◌, ◌≤◌, max, mul-add, Bool, true, false, not, cond, List, [], ◌∷◌, length, slice_index_or, Option, Some, None, refl, sym, ap, subst, inl, inr, arith, ℤ, pos, ◌+ℤ◌, ◌*ℤ◌, nat_abs, FitsSigned, to_z, of_z}
-use Rattle.std.specs.Int.{w128}
+use Rattle.std.proofs.Common.{◌≡◌, ℕ, ◌+◌, ◌*◌, ◌^◌, ◌<◌, ◌≤◌, max, Bool, true, false, not, cond, List, length, slice_index_or, Option, Some, None, refl, sym, ap, subst, arith, ℤ, pos, ◌*ℤ◌, nat_abs}
 use Rattle.std.specs.List.{range_with_len}
-use Rattle.std.proofs.lemmas.Int.{ints, to_z-of_z, to_z_pos, fits_signed_from_abs}
-use Rattle.std.proofs.Math.Nat.{mul-le-mul_left, mul-pos, one-le-pow}
-use Rattle.cell_rings.specs.RingLaws.{abs_add, mass_is_ring}
+use Rattle.std.proofs.Math.Nat.{mul-le-mul_left, mul-pos}
+use Rattle.cell_rings.specs.RingLaws.{mass_is_ring}
 use Rattle.finite_sums.specs.Members.{Among}
 use Rattle.finite_sums.specs.Sums.{nat_sum_over, sum_each}
-use Rattle.finite_sums.proofs.Members.{any_is, filter_has}
+use Rattle.finite_sums.proofs.Members.{filter_has}
 use Rattle.maid_model.specs.Diagrams.{greatest_number}
 use Rattle.maid_model.specs.Gains.{greatest_abs}
-use Rattle.maid_model.specs.Nodes.{IsOwnedBy, is_utility, is_utility_of, node_at, numbers_of, owners_of, owns}
+use Rattle.maid_model.specs.Nodes.{is_utility_of, node_at, numbers_of}
 use Rattle.maid_model.specs.Scopes.{chance_factor, greatest_of, utilities_for}
-use Rattle.maid_model.specs.Views.{NodeView, DiagramView}
+use Rattle.maid_model.specs.Views.{DiagramView}
 use Rattle.maid_model.proofs.Weighing.{product_positive}
-use Rattle.maid_laws.proofs.Proportions.{kind_of_utility}
 use Rattle.maid_laws.proofs.Rearranged.{among_range, number}
 use Rattle.node_sets.specs.declared.sets.NodeSet.{NodeSet}
 use Rattle.part_laws.proofs.NaturalSums.{some_factors_le}
-use Rattle.part_laws.proofs.PartSums.{and_both}
 use Rattle.part_laws.proofs.ScopeBounds.{chances_positive}
 use Rattle.plan_sums.specs.Plans.{in_plan}
 use Rattle.scope_sums.specs.Missing.{lacking_in}
+use Rattle.scope_sums.proofs.Shares.{first_terms, one_of_greatest, part_of_product, passing_sizes, scale_some, sum_within}
 use Rattle.weight_scale.specs.Given.{product_given, scope_given}
 use Rattle.evidence.specs.Sizes.{plan_given}
 use Rattle.evidence.specs.Stakes.{IsGivenStake, chances_lacking, share_given, scope_mass_given}
-use Rattle.evidence.proofs.Naturals.{part_of_product, passing_sizes}
-
--- ---- sums
--- one term more
-next_term : (f : ℕ → ℤ) (k n : ℕ) → sum_each f (range_with_len k n) +ℤ f (k + n) ≡ sum_each f (range_with_len k (suc n))
-next_term f k zero = at_zero (f k) (f (k + 0)) (ap f (zero_more k))
-  where
-    zero_more : (k : ℕ) → k + 0 ≡ k
-    zero_more k = omega arith
-
-    at_zero : (a b : ℤ) → b ≡ a → pos 0 +ℤ b ≡ a +ℤ pos 0
-    at_zero a b e = omega (arith, ints, e)
-next_term f k (suc n) = regroup (f k) (sum_each f (range_with_len (k + 1) n)) (f (k + suc n)) (f (k + 1 + n)) (ap f (next k n)) ∙ ap (λ x. f k +ℤ x) (next_term f (k + 1) n)
-  where
-    next : (k n : ℕ) → k + suc n ≡ k + 1 + n
-    next k n = omega arith
-
-    regroup : (a b c e : ℤ) → c ≡ e → (a +ℤ b) +ℤ c ≡ a +ℤ (b +ℤ e)
-    regroup a b c e h = omega (arith, ints, h)
-
--- the first terms are no more than all
-first_terms : (f : ℕ → ℕ) (k n m : ℕ) → n ≤ m → nat_sum_over f (range_with_len k n) ≤ nat_sum_over f (range_with_len k m)
-first_terms f k zero m h = omega arith
-first_terms f k (suc n) zero h = absurd (omega (arith, h))
-first_terms f k (suc n) (suc m) h = let rest = first_terms f (k + 1) n m (omega (arith, h)) in add _ _ _ rest
-  where
-    add : (a b c : ℕ) → b ≤ c → a + b ≤ a + c
-    add a b c l = omega (arith, l)
-
--- a sum of terms that are each within P times a number is within P times these numbers' sum
-sum_within : (f : ℕ → ℤ) (g : ℕ → ℕ) (most : ℕ) (vs : List ℕ) → ((v : ℕ) → Among v vs → nat_abs (f v) ≤ most * g v) → nat_abs (sum_each f vs) ≤ most * nat_sum_over g vs
-sum_within f g most [] h = omega arith
-sum_within f g most (v ∷ vs) h = step (nat_abs (f v +ℤ sum_each f vs)) _ _ most (g v) (nat_sum_over g vs) (abs_add (f v) (sum_each f vs)) (h v (inl refl)) (sum_within f g most vs (λ u m. h u (inr m)))
-  where
-    step : (s a b p x y : ℕ) → s ≤ a + b → a ≤ p * x → b ≤ p * y → s ≤ p * (x + y)
-    step s a b p x y h k l = omega (arith, h, k, l, mul-add p x y)
-
--- a utility of the list is no greater than all of them together
-pub one_of_greatest : (nodes : List NodeView) (us : List ℕ) (u : ℕ) → Among u us → greatest_abs (node_at nodes u).cells ≤ greatest_of nodes us
-one_of_greatest nodes [] u m = absurd m
-one_of_greatest nodes (v ∷ us) u (inl e) = subst (λ x. greatest_abs (node_at nodes u).cells ≤ greatest_abs (node_at nodes x).cells + greatest_of nodes us) e (first (greatest_abs (node_at nodes u).cells) (greatest_of nodes us))
-  where
-    first : (a b : ℕ) → a ≤ a + b
-    first a b = omega arith
-one_of_greatest nodes (v ∷ us) u (inr m) = let rest = one_of_greatest nodes us u m in later _ _ _ rest
-  where
-    later : (a b c : ℕ) → a ≤ c → a ≤ b + c
-    later a b c h = omega (arith, h)
-
--- ---- numbers in 128 bits
-pub fits_number : (z : ℤ) → nat_abs z ≤ greatest_number → FitsSigned w128 z
-fits_number z h = fits_signed_from_abs w128 z (omega (arith, h))
-
-fits_natural : (n : ℕ) → n ≤ greatest_number → to_z w128 n ≡ pos n
-fits_natural n h = to_z_pos w128 n (omega (arith, h))
-
--- a number times a natural
-pub product_value : (z : ℤ) (n m : ℕ) → FitsSigned w128 z → n ≡ m → m ≤ greatest_number → to_z w128 (of_z w128 z) *ℤ to_z w128 n ≡ z *ℤ pos m
-product_value z n m f e h = λ i. to_z-of_z w128 z f i *ℤ (ap (to_z w128) e ∙ fits_natural m h) i
-
--- a sum and its next term
-pub sum_next : (f : ℕ → ℤ) (v : ℕ) (sum term : ℤ) → sum ≡ sum_each f (range_with_len 0 v) → FitsSigned w128 term → term ≡ f v → sum +ℤ to_z w128 (of_z w128 term) ≡ sum_each f (range_with_len 0 (v + 1))
-sum_next f v sum term e fits h = (λ i. e i +ℤ (to_z-of_z w128 term fits ∙ h ∙ ap f (from_zero v)) i) ∙ next_term f 0 v ∙ ap (λ n. sum_each f (range_with_len 0 n)) (next v)
-  where
-    from_zero : (v : ℕ) → v ≡ 0 + v
-    from_zero v = omega arith
-
-    next : (v : ℕ) → suc v ≡ v + 1
-    next v = omega arith
-
-pub scale_some : (k : ℕ) → 0 < 10 ^ k
-scale_some k = let ten : 0 < 10 = omega arith in one-le-pow k 10 ten
 
 -- ---- an agent
 module _ (d : DiagramView) (x agent mass : ℕ) (worths : List ℤ) (scope : NodeSet) (is : IsGivenStake d x agent mass worths scope) where
@@ -169,14 +94,8 @@ module _ (d : DiagramView) (x agent mass : ℕ) (worths : List ℤ) (scope : Nod
 
   -- ---- utilities
   -- another node gives nothing
-  pub gives_none : (u : ℕ) → u < length d.nodes → (IsOwnedBy d.nodes u agent → ⊥) → pos 0 ≡ given_at u
-  gives_none u l n = go (is_utility_of d.nodes agent u) refl
-    where
-      go : (b : Bool) → is_utility_of d.nodes agent u ≡ b → pos 0 ≡ cond b (worth_times u) (pos 0)
-      go false e = refl
-      go true e =
-          let t = and_both (is_utility (node_at d.nodes u).kind) (owns d.nodes agent u) e in
-          absurd (n (record { within = l; kind = inr (kind_of_utility (node_at d.nodes u).kind t.0); owner = (any_is agent (owners_of d.nodes u)).0 t.1 }))
+  pub gives_none : (u : ℕ) → is_utility_of d.nodes agent u ≡ false → pos 0 ≡ given_at u
+  gives_none u e = ap (λ b. cond b (worth_times u) (pos 0)) (sym e)
 
   pub gives : (u : ℕ) → is_utility_of d.nodes agent u ≡ true → worth_times u ≡ given_at u
   gives u e = ap (λ b. cond b (worth_times u) (pos 0)) (sym e)

@@ -1,14 +1,13 @@
 -- The plans that keep x in an agent's scope: their sums are those of the whole, but for the totals left out, and they keep the scope's P.
 use Rattle.std.proofs.Common.{◌≡◌, ◌∙◌, ℕ, ◌*◌, ◌<◌, ◌≤◌, Bool, true, false, cond, List, [], ◌∷◌, Option, Some, None, Contains, length, slice_index_or, refl, sym, ap, subst, inl, inr, eqb, ℤ, pos, ◌*ℤ◌, nat_abs, le_trans, le_refl, le_of_eq, mul-le-mul}
-use Rattle.maid_model.specs.declared.diagrams.Kind.{Kind}
-use Rattle.maid_model.specs.declared.diagrams.Kind.TheVariants.{Chance, Decision, Utility}
+use Rattle.maid_model.specs.declared.diagrams.Kind.TheVariants.{Utility}
 use Rattle.maid_model.specs.Gains.{greatest_abs, sum_worlds, weight}
 use Rattle.maid_model.specs.Graph.{IsGraph}
 use Rattle.maid_model.specs.Nodes.{is_utility, is_utility_of, node_at, numbers_of, owns, states_of}
 use Rattle.maid_model.specs.Parts.{mass_left_out}
 use Rattle.maid_model.specs.Profiles.{IsProfile}
-use Rattle.maid_model.specs.Scopes.{chance_factor, chance_factor_by, utilities_for}
-use Rattle.maid_model.specs.Tables.{HasChanceTables, chance_total, rule_total, row_of, table, total_by, weight_total}
+use Rattle.maid_model.specs.Scopes.{chance_factor, utilities_for}
+use Rattle.maid_model.specs.Tables.{HasChanceTables, chance_total, rule_total, row_of, table, weight_total}
 use Rattle.maid_model.specs.Views.{NodeView, RuleView}
 use Rattle.maid_model.proofs.Setting.{HasTables}
 use Rattle.maid_model.proofs.Weighing.{product_positive}
@@ -36,21 +35,17 @@ use Rattle.plan_sums.specs.Plans.{PlanView, mass_cells, gain_cells, in_plan, eli
 use Rattle.plan_sums.proofs.Products.{first_product, gain_first, abs_product}
 use Rattle.plan_sums.proofs.Results.{weights_le, gains_le}
 use Rattle.plan_sums.proofs.Sized.{nat_product_is, cell_le}
+use Rattle.plan_sums.proofs.Added.{sum_each_mul}
 use Rattle.scope_sums.specs.Missing.{lacking_in}
 use Rattle.scope_sums.proofs.Kept.{tables_fit}
 use Rattle.scope_sums.proofs.Lacking.{plan_inside}
-use Rattle.scope_sums.proofs.Summed.{product_at, missing_is, sum_each_mul}
+use Rattle.scope_sums.proofs.Summed.{product_at, missing_is}
+use Rattle.scope_sums.proofs.Agents.{unit_factor}
 use Rattle.reach_laws.specs.Evidence.{UtilityByUtility, cell_in, gain_given, mass_given}
 use Rattle.weight_scale.specs.Given.{product_given, scope_given}
 use Rattle.evidence.specs.Sizes.{plan_given}
 use Rattle.evidence.specs.Stakes.{HasWorthsAt, IsMassAt, chances_lacking, share_given, scope_gain_given, scope_mass_given}
 use Rattle.evidence.proofs.Summed as summed
-
--- the factor of a table, and of a rule that adds up to 1
-unit_factor : (k : Kind) (chance rule : ℕ) → (k ≡ Decision → rule ≡ 1) → total_by k chance rule ≡ chance_factor_by k chance
-unit_factor Chance chance rule h = refl
-unit_factor Decision chance rule h = h refl
-unit_factor Utility chance rule h = refl
 
 module _ (nodes : List NodeView) (x agent : ℕ) (g : IsGraph nodes) (x_in : x < length nodes) where
   abbrev targets : List ℕ

@@ -1,7 +1,6 @@
 //! What the sums of plans give to an agent where a node's state is given.
 
-ghost use Rattle.std.specs.Prelude.{◌≡◌, ◌<◌, ◌≤◌, ◌^◌, true, if◌then◌else◌, length, nat_abs};
-ghost use Rattle.maid_model.specs.Answers.{IsFraction};
+ghost use Rattle.std.specs.Prelude.{◌≡◌, ◌<◌, ◌≤◌, true, if◌then◌else◌, length, nat_abs};
 ghost use Rattle.maid_model.specs.Diagrams.{greatest_number};
 ghost use Rattle.maid_model.specs.Nodes.{is_utility_of};
 ghost use Rattle.maid_model.specs.Scopes.{chance_factor};
@@ -11,7 +10,6 @@ ghost use Rattle.evidence.specs.Stakes.{chances_in, given_gain_to, given_share_o
 
 use maid_model::{Diagram, Kind, Ratio, descent_is_tested};
 use node_sets::{NodeSet, ancestors};
-use whole_num::reduce;
 
 /// The total of a chance node of a set, and 1 at another node.
 fn chance_factor(diagram: &Diagram, set: &NodeSet, v: usize) -> u128
@@ -38,24 +36,6 @@ fn chance_product(diagram: &Diagram, set: &NodeSet) -> u128
         product *= chance_factor(diagram, set, v);
     }
     product
-}
-
-/// By what the utilities are scaled: ten to the power of the diagram's decimals.
-fn scale(diagram: &Diagram) -> u128
-    ensures scale { result ≡ 10 ^ diagram.now.decimals }
-    ensures some { 0 < result }
-{
-    10u128.pow(diagram.decimals())
-}
-
-/// The fraction in lowest terms.
-fn fraction(num: i128, den: u128) -> Ratio
-    requires den { 0 < den }
-    requires num { nat_abs num ≤ greatest_number }
-    ensures { IsFraction result num den }
-{
-    let (num, den) = reduce(num, den);
-    Ratio { num, den }
 }
 
 /// An agent where a node's state is given, and what its conditional expected utility is made of.
@@ -107,10 +87,10 @@ impl<'a> Stake<'a> {
         requires within { v < length self.now.diagram.now.nodes }
         ensures { result ≡ given_share_of self.now v }
     {
-        let owned = self.diagram.owns(self.agent, v);
-        match self.diagram.kind(v) {
-            Kind::Utility if owned => self.given(v),
-            _ => 0,
+        if self.diagram.is_utility_of(self.agent, v) {
+            self.given(v)
+        } else {
+            0
         }
     }
 
@@ -133,6 +113,6 @@ impl<'a> Stake<'a> {
         ensures { IsFractionTo self.now result }
     {
         let mass = self.mass();
-        fraction(self.gain(), mass * scale(self.diagram))
+        Ratio::reduced(self.gain(), mass * self.diagram.scale())
     }
 }

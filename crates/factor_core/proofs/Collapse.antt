@@ -139,9 +139,6 @@ module _ (count out : ℕ → ℕ) (row : ℕ → List ℕ) (k : ℕ) (rows : (v
         ]
 
     module _ (cells : List C) (x : ℕ) where
-      total_of : List ℕ → List ℕ → ℕ → ℕ → C
-      total_of vs places at p = total r cells (axes_of count out vs) (stride_rows row vs) places at p
-
       -- one level of the walk, over the strides below
       pub total_step : (v : ℕ) (vs places : List ℕ) (at p : ℕ) → length places ≡ k → total r cells (axes_of count out (v ∷ vs)) (stride_rows row (v ∷ vs)) places at p ≡ ring_sum r (count v) (λ s. total r cells (axes_of count out vs) (stride_rows row vs) (shifted s (row v) places) (at + s * out v) p)
       total_step v vs places at p e =

@@ -39,9 +39,6 @@ one_axis (a ∷ b ∷ axes) e = absurd (omega arith)
 abbrev pub second_of : List Axis → Axis
 second_of axes = get_or axes 1 (record { states = 0; out = 0 })
 
-abbrev pub third_of : List Axis → Axis
-third_of axes = get_or axes 2 (record { states = 0; out = 0 })
-
 pub two_axes : (axes : List Axis) → length axes ≡ 2 → axes ≡ first_of axes ∷ (second_of axes ∷ [])
 two_axes [] e = absurd (omega arith)
 two_axes (a ∷ []) e = absurd (omega arith)

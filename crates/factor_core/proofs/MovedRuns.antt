@@ -3,7 +3,7 @@ use Rattle.std.proofs.Common.{◌≡◌, ℕ, zero, suc, ◌+◌, ◌*◌, ◌-�
 use Rattle.cell_rings.specs.Rings.{Ring, IsRing, IsSize, mass_ring}
 use Rattle.cell_rings.specs.RingLaws.{mass_is_ring, mass_sized}
 use Rattle.cell_rings.specs.Sums.{ring_sum, cell_at, product_at, run_sum, one_scaled, one_sizes, two_scaled, two_sizes, four_scaled, four_sizes, AreWithin, AddsCells, AddsOne, HasRoom}
-use Rattle.cell_rings.specs.declared.pairs.Pair.{Pair}
+use Rattle.cell_rings.specs.declared.pairs.RunPair.{RunPair}
 use Rattle.cell_rings.proofs.Adding.{nat_sum_one_more, nat_sum_grows, nat_sum_le, size_sum, adds_then}
 use Rattle.cell_rings.proofs.Together.{run_sum_plus}
 use Rattle.factor_core.specs.Walks.{shifted, total, load, IsMet, CanWalk, MovesAlong, IsCount, CanReadRun, IsRunAt}
@@ -126,20 +126,20 @@ module _ {C : Type 0} {r : Ring C} (laws : IsRing r) (sizes : IsSize r r.size) w
         moved_in_out laws sizes (can_state 0 axis.some) turned (moved_at 0)
 
     -- the runs at two states
-    pub record ArePair (i j : ℕ) (pair : Pair C) : Type 0 where
+    pub record ArePair (i j : ℕ) (pair : RunPair C) : Type 0 where
       pub before : (i < sum.states) × (j < sum.states)
       pub first : IsRunAt turned r cells (state i) pair.first pair.from
       pub second : IsRunAt turned r cells (state j) pair.second pair.beside
 
     -- as they were read
-    pub read_pair : (s i j : ℕ) {here : List ℕ} (pair : Pair C) → here ≡ state s → s ≡ i → s + 1 ≡ j → j < sum.states → IsRunAt turned r cells here pair.first pair.from → IsRunAt turned r cells (shifted 1 strides here) pair.second pair.beside → ArePair i j pair
+    pub read_pair : (s i j : ℕ) {here : List ℕ} (pair : RunPair C) → here ≡ state s → s ≡ i → s + 1 ≡ j → j < sum.states → IsRunAt turned r cells here pair.first pair.from → IsRunAt turned r cells (shifted 1 strides here) pair.second pair.beside → ArePair i j pair
     read_pair s i j pair e at_i at_j h first second = record {
       before = (omega arith, h);
       first = subst (λ qs. IsRunAt turned r cells qs pair.first pair.from) (e ∙ ap state at_i) first;
       second = subst (λ qs. IsRunAt turned r cells qs pair.second pair.beside) (reach s 1 e ∙ ap state at_j) second;
     }
 
-    pub pair_within : (i j : ℕ) (pair : Pair C) → ArePair i j pair → AreWithin cells pair a.states
+    pub pair_within : (i j : ℕ) (pair : RunPair C) → ArePair i j pair → AreWithin cells pair a.states
     pair_within i j pair are = (
       moved_in_cells laws sizes (can_state i are.before.0) turned (moved_at i) pair.first pair.from are.first,
       moved_in_cells laws sizes (can_state j are.before.1) turned (moved_at j) pair.second pair.beside are.second,
@@ -156,7 +156,7 @@ module _ {C : Type 0} {r : Ring C} (laws : IsRing r) (sizes : IsSize r r.size) w
         (moved_load laws sizes (can_state s h) turned (moved_at s) factor from is p)
 
     -- what a pair adds, and the sizes of that
-    pub pair_part : (i j : ℕ) (pair : Pair C) → ArePair i j pair → (p : ℕ) → run_sum r a.states at (two_scaled r (λ f. f) cells pair) p ≡ r.plus (part i p) (part j p)
+    pub pair_part : (i j : ℕ) (pair : RunPair C) → ArePair i j pair → (p : ℕ) → run_sum r a.states at (two_scaled r (λ f. f) cells pair) p ≡ r.plus (part i p) (part j p)
     pair_part i j pair are p =
         let one = one_scaled r pair.first cells pair.from in
         let two = one_scaled r pair.second cells pair.beside in
@@ -164,7 +164,7 @@ module _ {C : Type 0} {r : Ring C} (laws : IsRing r) (sizes : IsSize r r.size) w
         ∙ ap (λ x. r.plus x (run_sum r a.states at two p)) (run_part i are.before.0 pair.first pair.from are.first p)
         ∙ ap (r.plus (part i p)) (run_part j are.before.1 pair.second pair.beside are.second p)
 
-    pub pair_size : (i j : ℕ) (pair : Pair C) → ArePair i j pair → (p : ℕ) → run_sum mass_ring a.states at (two_sizes r r.size cells pair) p ≤ size_part i p + size_part j p
+    pub pair_size : (i j : ℕ) (pair : RunPair C) → ArePair i j pair → (p : ℕ) → run_sum mass_ring a.states at (two_sizes r r.size cells pair) p ≤ size_part i p + size_part j p
     pair_size i j pair are p =
         let one = one_sizes r pair.first cells pair.from in
         let two = one_sizes r pair.second cells pair.beside in
@@ -181,12 +181,12 @@ module _ {C : Type 0} {r : Ring C} (laws : IsRing r) (sizes : IsSize r r.size) w
         let split = ring_sum_split mass_is_ring s k (λ i. size_part i p) in
         omega (arith, is, terms, all, count, split, sizes.plus (cell_at r out p) (ring_sum r s (λ i. part i p)), size_sum laws sizes s (λ i. part i p), can.room.each p)
 
-    pub two_have_room : (s : ℕ) {now : List C} (pair : Pair C) → s + 2 ≤ sum.states → AddsCells r (λ p. ring_sum r s (λ i. part i p)) out now → ArePair (s + 0) (s + 1) pair → HasRoom r now (run_sum mass_ring a.states at (two_sizes r r.size cells pair))
+    pub two_have_room : (s : ℕ) {now : List C} (pair : RunPair C) → s + 2 ≤ sum.states → AddsCells r (λ p. ring_sum r s (λ i. part i p)) out now → ArePair (s + 0) (s + 1) pair → HasRoom r now (run_sum mass_ring a.states at (two_sizes r r.size cells pair))
     two_have_room s {now} pair h adds are = record {
       each = λ p. omega (arith, more_room s 2 now h adds p, pair_size (s + 0) (s + 1) pair are p);
     }
 
-    pub four_have_room : (s : ℕ) {now : List C} (one other : Pair C) → s + 4 ≤ sum.states → AddsCells r (λ p. ring_sum r s (λ i. part i p)) out now → ArePair (s + 0) (s + 1) one → ArePair (s + 2) (s + 3) other → HasRoom r now (run_sum mass_ring a.states at (four_sizes r r.size cells one other))
+    pub four_have_room : (s : ℕ) {now : List C} (one other : RunPair C) → s + 4 ≤ sum.states → AddsCells r (λ p. ring_sum r s (λ i. part i p)) out now → ArePair (s + 0) (s + 1) one → ArePair (s + 2) (s + 3) other → HasRoom r now (run_sum mass_ring a.states at (four_sizes r r.size cells one other))
     four_have_room s {now} one other h adds first second = record {
       each = λ p.
           let both = run_sum_plus mass_is_ring mass_sized a.states at p (two_sizes r r.size cells one) (two_sizes r r.size cells other) in
@@ -199,12 +199,12 @@ module _ {C : Type 0} {r : Ring C} (laws : IsRing r) (sizes : IsSize r r.size) w
         let then = adds_then laws sizes (λ p. ring_sum r s (λ i. part i p)) (λ p. ring_sum r k (λ i. part (s + i) p)) out now new adds more in
         record { each = λ p. then.each p ∙ ap (r.plus (cell_at r out p)) (sym (ring_sum_split laws s k (λ i. part i p))) }
 
-    pub adds_two : (s : ℕ) {now new : List C} (pair : Pair C) → AddsCells r (λ p. ring_sum r s (λ i. part i p)) out now → ArePair (s + 0) (s + 1) pair → AddsCells r (run_sum r a.states at (two_scaled r (λ f. f) cells pair)) now new → AddsCells r (λ p. ring_sum r (s + 2) (λ i. part i p)) out new
+    pub adds_two : (s : ℕ) {now new : List C} (pair : RunPair C) → AddsCells r (λ p. ring_sum r s (λ i. part i p)) out now → ArePair (s + 0) (s + 1) pair → AddsCells r (run_sum r a.states at (two_scaled r (λ f. f) cells pair)) now new → AddsCells r (λ p. ring_sum r (s + 2) (λ i. part i p)) out new
     adds_two s {now} {new} pair adds are more = adds_more s 2 now new adds (record {
       each = λ p. more.each p ∙ ap (r.plus (cell_at r now p)) (pair_part (s + 0) (s + 1) pair are p ∙ sum_of_two (λ i. part (s + i) p));
     })
 
-    pub adds_four : (s : ℕ) {now new : List C} (one other : Pair C) → AddsCells r (λ p. ring_sum r s (λ i. part i p)) out now → ArePair (s + 0) (s + 1) one → ArePair (s + 2) (s + 3) other → AddsCells r (run_sum r a.states at (four_scaled r (λ f. f) cells one other)) now new → AddsCells r (λ p. ring_sum r (s + 4) (λ i. part i p)) out new
+    pub adds_four : (s : ℕ) {now new : List C} (one other : RunPair C) → AddsCells r (λ p. ring_sum r s (λ i. part i p)) out now → ArePair (s + 0) (s + 1) one → ArePair (s + 2) (s + 3) other → AddsCells r (run_sum r a.states at (four_scaled r (λ f. f) cells one other)) now new → AddsCells r (λ p. ring_sum r (s + 4) (λ i. part i p)) out new
     adds_four s {now} {new} one other adds first second more = adds_more s 4 now new adds (record {
       each = λ p.
           more.each p

@@ -2,13 +2,13 @@
 use Rattle.std.proofs.Common.{◌≡◌, ℕ, suc, ◌+◌, ◌*◌, ◌-◌, ◌<◌, ◌≤◌, List, [], ◌∷◌, ◌++◌, take, length, refl, sym, ap, subst, ◌∙◌, arith, get_or, cond, Bool, true, false, ◌==◌}
 use Rattle.std.proofs.lemmas.List.{take_more, take_all, length-take-le}
 use Rattle.cell_rings.specs.Rings.{Ring, IsRing, IsSize, mass_ring}
-use Rattle.cell_rings.specs.Sums.{cell_at, product_from, product_at, sizes_of, ProductFits, run_sum, HasRoom}
+use Rattle.cell_rings.specs.Sums.{cell_at, product_from, product_at, sizes_of, ProductFits, run_sum}
 use Rattle.cell_rings.proofs.Adding.{nat_sum_le, size_at}
 use Rattle.cell_rings.proofs.Together.{ring_sum_cong}
 use Rattle.factor_core.specs.Walks.{shifted, total, load, IsMet, CanWalk, IsRun}
 use Rattle.factor_core.specs.declared.walks.Axis.{Axis}
 use Rattle.std.proofs.Math.Nat.{mul-le-mul_right}
-use Rattle.factor_core.proofs.Shifts.{length-shifted, get-shifted, first_choice}
+use Rattle.factor_core.proofs.Shifts.{length-shifted, get-shifted}
 
 pub product-append : {C : Type 0} (r : Ring C) (cells : List C) (x : C) (ps : List ℕ) (p : ℕ) → product_from r cells x (ps ++ p ∷ []) ≡ r.times (product_from r cells x ps) (cell_at r cells p)
 product-append r cells x [] p = refl
@@ -70,9 +70,6 @@ pub run_sum_le : (n at p : ℕ) (f g : ℕ → ℕ) → ((i : ℕ) → f i ≤ g
 run_sum_le n at p f g h = nat_sum_le n (λ i. cond (p == at + i) (f i) 0) (λ i. cond (p == at + i) (g i) 0) (λ i l. if_le (p == at + i) (f i) (g i) (h i))
 
 module _ {C : Type 0} {r : Ring C} (laws : IsRing r) (sizes : IsSize r r.size) where
-  pub room_less : (xs : List C) (f g : ℕ → ℕ) → ((p : ℕ) → f p ≤ g p) → HasRoom r xs g → HasRoom r xs f
-  room_less xs f g h room = record { each = λ p. omega (arith, room.each p, h p) }
-
   -- the sizes of a run's products are within the load
   pub run_load_le : (cells : List C) (a : Axis) (ds places : List ℕ) (at : ℕ) → IsRun a ds (length places) → (factor : C) → r.size factor ≤ product_at mass_ring (sizes_of r cells) (take (length places - 1) places) → (p : ℕ) → run_sum mass_ring a.states at (λ i. r.size factor * r.size (cell_at r cells (get_or places (length places - 1) 0 + i))) p ≤ load r cells (a ∷ []) ds places at p
   run_load_le cells a ds places at run factor h p =
@@ -85,10 +82,6 @@ module _ {C : Type 0} {r : Ring C} (laws : IsRing r) (sizes : IsSize r r.size) w
       (λ i. subst (λ n. r.size factor * r.size (cell_at r cells (last + i)) ≤ product_at mass_ring lists front * n) (sym (size_at laws sizes cells (last + i))) (mul-le-mul_right (r.size (cell_at r cells (last + i))) h)))
 
   module _ (cells : List C) (a : Axis) (ds places : List ℕ) (out : List C) (at : ℕ) (run : IsRun a ds (length places)) (can : CanWalk r cells (a ∷ []) ds places out at) where
-    -- the first choice, at which no place has moved
-    pub run_first : IsMet r cells (length out) places at
-    run_first = first_choice (IsMet r cells (length out)) (a ∷ []) ds places at can.are_axes can.met
-
     -- the last choice of a state
     last_choice : IsMet r cells (length out) (shifted (a.states - 1) ds places) (at + (a.states - 1) * a.out)
     last_choice = let axis = can.are_axes 0 a (omega arith) in can.met (a.states - 1) (omega (arith, axis.some))

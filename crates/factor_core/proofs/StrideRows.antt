@@ -147,9 +147,6 @@ beside_once at i j e = elim (beside at i) [
   ]
 ]
 
-pub beside_most : (at i n : ℕ) → i < n → row_beside at i ≤ n
-beside_most at i n l = elim (beside at i) [ inl h ↦ (let a = h.1 in omega arith) | inr h ↦ (let a = h.1 in omega arith) ]
-
 -- the nodes of a scope stand in ascending order
 pub listed_from : (h : ℕ → Bool) (k v i : ℕ) → i < length (listed h v k) → v ≤ get_or (listed h v k) i 0
 listed_from h zero v i l = absurd (omega arith)

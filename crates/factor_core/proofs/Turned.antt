@@ -8,7 +8,7 @@ use Rattle.factor_core.specs.Walks.{shifted, total, load, IsMet, CanWalk, IsTurn
 use Rattle.factor_core.specs.declared.walks.Axis.{Axis}
 use Rattle.factor_core.proofs.RunLemmas.{run_sum_le}
 use Rattle.cell_rings.proofs.Together.{ring_sum_cong}
-use Rattle.factor_core.proofs.Shifts.{length-shifted, get-shifted, first_choice}
+use Rattle.factor_core.proofs.Shifts.{length-shifted, get-shifted}
 
 two_items : (xs : List ℕ) → length xs ≡ 2 → xs ≡ get_or xs 0 0 ∷ (get_or xs 1 0 ∷ [])
 two_items [] e = absurd (omega arith)
@@ -53,9 +53,6 @@ module _ (a : Axis) (ds places : List ℕ) (turned : IsTurned a ds (length place
         ap (λ k. cond (p == k) (product_at r cells (shifted s ds places)) r.nought) there ∙ ap (λ x. cond (p == at + s) x r.nought) (turned_product s))
 
 module _ {C : Type 0} {r : Ring C} (laws : IsRing r) (sizes : IsSize r r.size) (cells : List C) (a : Axis) (ds places : List ℕ) (out : List C) (at : ℕ) (turned : IsTurned a ds (length places)) (can : CanWalk r cells (a ∷ []) ds places out at) where
-  pub first_met : IsMet r cells (length out) places at
-  first_met = first_choice (IsMet r cells (length out)) (a ∷ []) ds places at can.are_axes can.met
-
   last_met : IsMet r cells (length out) (shifted (a.states - 1) ds places) (at + (a.states - 1) * a.out)
   last_met = let axis = can.are_axes 0 a (omega arith) in can.met (a.states - 1) (omega (arith, axis.some))
 

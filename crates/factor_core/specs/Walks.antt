@@ -4,7 +4,7 @@
 use Rattle.std.specs.Prelude.{◌≡◌, ℕ, ◌+◌, ◌*◌, ◌^◌, ◌<◌, ◌≤◌, ◌==◌, if◌then◌else◌, Bool, true, false, List, [], ◌∷◌, ◌-◌, length, take, drop, All, slice_index}
 use Rattle.cell_rings.specs.Rings.{Ring, mass_ring}
 use Rattle.cell_rings.specs.Sums.{ring_sum, cell_at, product_at, product_from, sizes_of, ProductFits, AddsCells, HasRoom}
-use Rattle.cell_rings.specs.declared.pairs.Pair.{Pair}
+use Rattle.cell_rings.specs.declared.pairs.RunPair.{RunPair}
 use Rattle.factor_core.specs.declared.walks.Axis.{Axis}
 
 -- the places after s steps along an axis, whose strides stand first in the list
@@ -142,7 +142,7 @@ IsRunAt true r cells places factor from = IsFirstRun r cells places factor from
 
 -- the same at the next state of the axis, whose strides stand first: the second run of a pair
 abbrev pub IsSecondRun :
-    {C : Type 0} → Bool → Ring C → List C → List ℕ → List ℕ → Pair C → Type 0
+    {C : Type 0} → Bool → Ring C → List C → List ℕ → List ℕ → RunPair C → Type 0
 IsSecondRun turned r cells strides places pair =
     IsRunAt turned r cells (shifted 1 strides places) pair.second pair.beside
 

@@ -23,6 +23,6 @@ mod walks;
 mod workspaces;
 mod writes;
 
-pub use slots::{Slot, Strip};
+pub use slots::{Slot, Strip, united_scope};
 pub use states::StateCounts;
 pub use workspaces::Workspace;

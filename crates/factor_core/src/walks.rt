@@ -6,7 +6,7 @@ ghost use Rattle.factor_core.specs.Walks.{shifted, CanWalk, IsRun, IsTurned, Mov
 ghost use Rattle.factor_core.specs.Narrow.{AreNarrow};
 
 use crate::narrow::Narrow;
-use cell_rings::{Cell, Pair};
+use cell_rings::{Cell, RunPair};
 
 /// One axis of a walk: how many states its node has, and how far the result's place moves from one state to the next,
 /// which is 0 at the node that is summed.
@@ -130,7 +130,12 @@ fn read_run<C: Cell>(turned: bool, cells: &[C], places: &[usize]) -> Run<C>
 }
 
 /// The runs at two states of the axis above, whose strides stand first, and the places after these states.
-fn next_pair<C: Cell>(turned: bool, strides: &[usize], cells: &[C], places: &mut [usize]) -> Pair<C>
+fn next_pair<C: Cell>(
+    turned: bool,
+    strides: &[usize],
+    cells: &[C],
+    places: &mut [usize],
+) -> RunPair<C>
     requires first { CanReadRun turned C.ring cells.now places.old }
     requires second { CanReadRun turned C.ring cells.now (shifted 1 strides.now places.old) }
     requires few { length cells.now ≤ 2 ^ 32 }
@@ -144,7 +149,7 @@ fn next_pair<C: Cell>(turned: bool, strides: &[usize], cells: &[C], places: &mut
     advance(places, strides);
     let second = read_run(turned, cells, places);
     advance(places, strides);
-    Pair {
+    RunPair {
         first: first.factor,
         second: second.factor,
         from: first.from,
@@ -153,7 +158,14 @@ fn next_pair<C: Cell>(turned: bool, strides: &[usize], cells: &[C], places: &mut
 }
 
 /// Adds both runs of n cells, each times its factor, the faster way where all of them are narrow.
-fn add_two<C: Cell>(narrow: Narrow, out: &mut [C], at: usize, n: usize, pair: &Pair<C>, cells: &[C])
+fn add_two<C: Cell>(
+    narrow: Narrow,
+    out: &mut [C],
+    at: usize,
+    n: usize,
+    pair: &RunPair<C>,
+    cells: &[C],
+)
     requires narrow { AreNarrow C.ring C.bits C.narrow cells.now narrow }
     requires out { at + n ≤ length out.old }
     requires cells { AreWithin cells.now pair.now n }
@@ -173,8 +185,8 @@ fn add_four<C: Cell>(
     out: &mut [C],
     at: usize,
     n: usize,
-    one: &Pair<C>,
-    other: &Pair<C>,
+    one: &RunPair<C>,
+    other: &RunPair<C>,
     cells: &[C],
 )
     requires narrow { AreNarrow C.ring C.bits C.narrow cells.now narrow }

@@ -19,7 +19,7 @@ bytes_differ xs ys h = by_test (bytes_eq xs ys) refl where
   by_test true e = absurd (h ((bytes_eq-Decides xs ys).0 e))
   by_test false e = refl
 
-bytes_same : (xs ys : List ℕ) → xs ≡ ys → bytes_eq xs ys ≡ true
+pub bytes_same : (xs ys : List ℕ) → xs ≡ ys → bytes_eq xs ys ≡ true
 bytes_same xs ys e = (bytes_eq-Decides xs ys).1 e
 
 -- some name of the list is this one

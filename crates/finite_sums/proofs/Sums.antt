@@ -130,14 +130,6 @@ sum_over_ignores count (v ∷ vs) f u h = record {
     go (yes e) w i t k s l r = ap (sum_over count vs f) (subst (λ x. with_state (with_state w u t) x s ≡ with_state w x s) e (with_again w u t s))
     go (no n) w i t k s l r = ap (sum_over count vs f) (with_swap w u t v s n) ∙ r.same (with_state w v s) (with_in count w v s i l) t k
 
--- a summed node is not looked at
-pub sum_over_ignores_own : (count : ℕ → ℕ) (v : ℕ) (vs : List ℕ) (f : World → ℤ) → Ignores count (sum_over count (v ∷ vs) f) v
-sum_over_ignores_own count v vs f = record {
-  same = λ w i t k.
-      sum_below_cong (count v) (λ s. sum_over count vs f (with_state (with_state w v t) v s)) (λ s. sum_over count vs f (with_state w v s))
-      (λ s l. ap (sum_over count vs f) (with_again w v t s));
-}
-
 pub Ignores-mul : (count : ℕ → ℕ) (f g : World → ℤ) (u : ℕ) → Ignores count f u → Ignores count g u → Ignores count (λ w. f w *ℤ g w) u
 Ignores-mul count f g u hf hg = record { same = λ w i s l. ap (λ x. x *ℤ g (with_state w u s)) (hf.same w i s l) ∙ ap (λ x. f w *ℤ x) (hg.same w i s l) }
 

@@ -1,6 +1,6 @@
 -- What the words of a table keep: where each part finds nothing or a fault, or never both, or one fault at most, so does the whole.
 use Rattle.std.proofs.Common.{◌≡◌, Bool, true, false, inl, inr, List, [], ◌∷◌, ◌++◌, None, Some, refl, sym, ◌∙◌, ap, subst}
-use Rattle.first_fault.specs.Passes.{Pass, clear, rule, always, only, ◌▸◌, each, each_after, over}
+use Rattle.first_fault.specs.Passes.{Pass, clear, rule, only, ◌▸◌, each, each_after, over}
 use Rattle.first_fault.specs.Properties.{IsCovered, IsExclusive, HasOne, FindsOnly}
 
 -- A fault or none. A row's condition has to be decided.
@@ -10,13 +10,6 @@ clear_covered = inl tt
 pub rule_covered : {Fault : Type 0} (Applies : Type 0) (fault : Fault) → Dec Applies → IsCovered (rule Applies fault)
 rule_covered Applies fault (yes h) = inr (fault, (h, refl))
 rule_covered Applies fault (no n) = inl n
-
-pub always_covered : {Fault : Type 0} (fault : Fault) → IsCovered (always fault)
-always_covered fault = inr (fault, (tt, refl))
-
-pub only_covered : {Fault : Type 0} (b : Bool) (P : Pass Fault) → (b ≡ true → IsCovered P) → IsCovered (only b P)
-only_covered true P h = h refl
-only_covered false P h = inl tt
 
 -- the second pass may rely on it that the first finds nothing
 pub then_covered : {Fault : Type 0} (P Q : Pass Fault) → IsCovered P → (P None → IsCovered Q) → IsCovered (P ▸ Q)

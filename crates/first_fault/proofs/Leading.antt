@@ -2,7 +2,7 @@
 use Rattle.std.proofs.Common.{◌≡◌, ℕ, ◌+◌, ◌<◌, ◌≤◌, Bool, true, false, cond, inl, inr, List, [], ◌∷◌, ◌++◌, length, get_or, take, drop, filter, Option, None, Some, Result, Ok, Err, sym, ◌∙◌, ap}
 use Rattle.std.proofs.lemmas.List.{drop_more, take_more, append-nil, drop_all}
 use Rattle.std.proofs.lemmas.List.Elements.{filter-append}
-use Rattle.first_fault.specs.Passes.{Pass, clear, ◌▸◌, each, each_after}
+use Rattle.first_fault.specs.Passes.{Pass, clear, ◌▸◌, each_after}
 use Rattle.first_fault.specs.Answers.{IsFoundIfAny, Passes}
 
 -- what the rest finds, the whole pass finds
@@ -40,11 +40,6 @@ refused_later P Q (Some f) nothing h = inr (nothing, h)
 pub passes_on : {A E Fault : Type 0} (view : E → Option Fault) (P Q : Pass Fault) (result : Result A E) → P None → Passes view Q result → Passes view (P ▸ Q) result
 passes_on view P Q (Ok x) nothing h = (nothing, h)
 passes_on view P Q (Err fault) nothing h = refused_later P Q (view fault) nothing h
-
--- an answer of the rows to come is one of the whole pass
-pub leads_passes : {A E Fault : Type 0} (view : E → Option Fault) (P W : Pass Fault) (result : Result A E) → Leads P W → Passes view P result → Passes view W result
-leads_passes view P W (Ok x) lead h = lead None h
-leads_passes view P W (Err fault) lead h = leads_refused P W (view fault) lead h
 
 -- what the items from place i on find, those before having found nothing
 abbrev pub AfterPass : {X Fault : Type 0} → (List X → X → Pass Fault) → (X → Bool) → List X → ℕ → Pass Fault
@@ -88,18 +83,3 @@ module _ {X Fault : Type 0} (P : List X → X → Pass Fault) (p : X → Bool) (
   -- no item is left
   pub after_end : (i : ℕ) → length xs ≤ i → Leads (AfterPass P p xs i) W → W None
   after_end i h lead = leads_end W (λ outcome nothing. lead outcome (rw (drop_all i xs h) nothing))
-
--- the items of a first list find nothing, and those of a second lead on
-pub each_on : {X Fault : Type 0} (P : X → Pass Fault) (xs ys : List X) (W : Pass Fault) → Leads (each P (xs ++ ys)) W → each P xs None → Leads (each P ys) W
-each_on P [] ys W lead nothing = lead
-each_on P (x ∷ xs) ys W lead nothing = each_on P xs ys W (leads_on (P x) (each P (xs ++ ys)) W lead nothing.0) nothing.1
-
--- what the items of a first list find, both lists find
-each_found : {X Fault : Type 0} (P : X → Pass Fault) (xs ys : List X) (f : Fault) → each P xs (Some f) → each P (xs ++ ys) (Some f)
-each_found P [] ys f h = absurd h
-each_found P (x ∷ xs) ys f (inl h) = inl h
-each_found P (x ∷ xs) ys f (inr h) = inr (h.0, each_found P xs ys f h.1)
-
-pub each_refused : {X Fault : Type 0} (P : X → Pass Fault) (xs ys : List X) (told : Option Fault) → IsFoundIfAny (each P xs) told → IsFoundIfAny (each P (xs ++ ys)) told
-each_refused P xs ys None h = tt
-each_refused P xs ys (Some f) h = each_found P xs ys f h

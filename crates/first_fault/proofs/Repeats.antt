@@ -16,17 +16,6 @@ repeat_row earlier n = rule (Contains earlier n) n
 inside : (n m whole : ℕ) → whole ≡ n + suc m → n < whole
 inside n m whole e = omega arith
 
-further : (n m whole j : ℕ) → whole ≡ n + m → j < n → j < whole
-further n m whole j e h = omega arith
-
--- where numbers differ, so do those in front
-front_differs : (xs ys : List ℕ) → Differ (xs ++ ys) → Differ xs
-front_differs xs ys h i j d l k e =
-    h i j d l (further (length xs) (length ys) (length (xs ++ ys)) j (length-append xs ys) k)
-    (get_or_append_left xs ys d i (below i j (length xs) l k) ∙ e ∙ sym (get_or_append_left xs ys d j k)) where
-      below : (i j n : ℕ) → i < j → j < n → i < n
-      below i j n l k = omega arith
-
 -- and none stands before itself
 not_earlier : (xs : List ℕ) (y : ℕ) (ys : List ℕ) → Differ (xs ++ y ∷ ys) → Contains xs y → ⊥
 not_earlier xs y ys differ (k, h, e) =

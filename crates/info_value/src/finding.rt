@@ -7,26 +7,13 @@ ghost use Rattle.maid_model.specs.Nodes.{IsDecision};
 ghost use Rattle.maid_model.specs.Relevance.{IsRequisite};
 ghost use Rattle.optimum_gap.specs.Baselines.{HoldsBaseline};
 ghost use Rattle.info_value.specs.Alone.{CanAsk, HasRoomForArc, IsFoundOfSeen, IsUnseenFoundOf, WouldBeNeeded};
-ghost use Rattle.info_value.specs.Finding.{missing, diagram_with_arc};
+ghost use Rattle.info_value.specs.Finding.{diagram_with_arc};
 
 use arc_laws::arc_removed;
-use diagram_graph::{AddFault, RemoveFault, add_arc, is_too_large, remove_arc};
+use diagram_graph::{AddFault, add_arc, is_too_large, without_arc};
 use maid_model::Diagram;
 use optimum_gap::{Baseline, Found, edits_keep_scopes};
 use std::alloc::{AllocError, Global};
-
-/// The diagram without an arc that is there.
-fn without(alloc: Global, diagram: &Diagram, from: usize, to: usize) -> Result<Diagram, AllocError>
-    requires decision { IsDecision diagram.now.nodes to }
-    requires arc { Arc diagram.now.nodes from to }
-    ensures { IfOk result (λ less. less ≡ missing diagram.now from to) }
-{
-    match remove_arc(alloc, diagram, from, to) {
-        Ok(less) => Ok(less),
-        Err(RemoveFault::NotPresent) => unreachable!(),
-        Err(RemoveFault::NoMemory) => Err(AllocError),
-    }
-}
 
 /// The diagram with an arc that is not there and keeps the limits on rules.
 fn with(alloc: Global, diagram: &Diagram, from: usize, to: usize) -> Result<Diagram, AllocError>
@@ -63,7 +50,7 @@ pub(crate) fn find_seen(
         return Ok(Found::Worthless);
     }
     let _count = baseline.diagram.count();
-    let less = without(alloc, baseline.diagram, from, to)?;
+    let less = without_arc(alloc, baseline.diagram, from, to)?;
     baseline.loss(alloc, &less)
 }
 

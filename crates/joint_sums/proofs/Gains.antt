@@ -1,6 +1,6 @@
 -- The gain of the joint sum: a sum over all worlds, of which the tables of the scope are left, is the sum of the goals'
 -- parts, and so are their plans; the totals left out cancel.
-use Rattle.std.proofs.Common.{◌≡◌, ◌⊎◌, ◌∙◌, ℕ, Bool, true, false, not, cond, ◌&&◌, filter, List, [], ◌∷◌, refl, sym, ap, subst, inl, inr, ℤ, pos, ◌+ℤ◌, ◌*ℤ◌}
+use Rattle.std.proofs.Common.{◌≡◌, ◌⊎◌, ◌∙◌, ℕ, Bool, true, false, not, cond, ◌&&◌, filter, List, [], ◌∷◌, refl, sym, ap, subst, inl, inr, ℤ, pos, ◌*ℤ◌}
 use Rattle.std.proofs.Math.Path.{fun_ext}
 use Rattle.maid_model.specs.Gains.{sum_worlds, weight_without, is_at}
 use Rattle.maid_model.specs.Graph.{IsGraph}
@@ -17,13 +17,13 @@ use Rattle.finite_sums.specs.Members.{Among}
 use Rattle.finite_sums.specs.Sums.{World, InRange, sum_over, sum_each, product_over}
 use Rattle.finite_sums.proofs.Ints.{mul_comm}
 use Rattle.finite_sums.proofs.Lists.{among_filter}
-use Rattle.finite_sums.proofs.Sums.{sum_over_add, sum_over_cong, Ignores-add}
+use Rattle.finite_sums.proofs.Sums.{sum_over_cong, Ignores-add}
 use Rattle.maid_laws.proofs.Basis.{among_filter_in}
 use Rattle.maid_laws.proofs.Booleans.{bool_same, not_both}
 use Rattle.maid_laws.proofs.Collapse.{one_if, one_if-cond, agree, rows_agree, agree_rows}
 use Rattle.maid_laws.proofs.Members.{contains_of}
 use Rattle.maid_laws.proofs.OneUtility.{table_but, but_looks, but_total, agree_cases, both_true, both_false}
-use Rattle.maid_laws.proofs.Proportions.{sum_over_zero, kind_of_utility}
+use Rattle.maid_laws.proofs.Proportions.{kind_of_utility, sum_over_each}
 use Rattle.maid_laws.proofs.Rearranged.{number}
 use Rattle.maid_laws.proofs.Signs.{pos_product}
 use Rattle.maid_laws.proofs.Tied.{tables_of}
@@ -39,17 +39,13 @@ use Rattle.plan_sums.proofs.Filters.{product_skip, has_yes, has_member}
 use Rattle.plan_sums.proofs.Looks.{value_ignores}
 use Rattle.plan_sums.proofs.Parts.{gain_is}
 use Rattle.plan_sums.proofs.Products.{gain_of_over}
+use Rattle.plan_sums.proofs.Added.{sum_each_mul}
 use Rattle.scope_sums.specs.Missing.{missing_in}
-use Rattle.scope_sums.proofs.Summed.{sum_each_mul, cancel_factor, outward, missing_is, scope_is_closed, gain_inside}
+use Rattle.scope_sums.proofs.Summed.{cancel_factor, outward, missing_is, scope_is_closed, gain_inside}
 use Rattle.joint_sums.specs.Joint.{scope_nodes, joint_summed, joint_tables, joint_sum}
 use Rattle.joint_sums.specs.Laws.{JointGains}
 use Rattle.joint_sums.proofs.ScopeNodes.{inside, scope_nodes_are, node_within, node_inside, inside_closed, goal_parent, own_node, family_node}
 use Rattle.joint_sums.proofs.Pairs.{joint_gain}
-
--- a sum of sums, the other way round
-sum_over_each : (count : ℕ → ℕ) (vs : List ℕ) (h : ℕ → World → ℤ) (us : List ℕ) (w : World) → sum_over count vs (λ x. sum_each (λ u. h u x) us) w ≡ sum_each (λ u. sum_over count vs (h u) w) us
-sum_over_each count vs h [] w = sum_over_zero count vs w
-sum_over_each count vs h (u ∷ us) w = sum_over_add count vs (h u) (λ x. sum_each (λ u. h u x) us) w ∙ ap (λ y. sum_over count vs (h u) w +ℤ y) (sum_over_each count vs h us w)
 
 -- a sum of terms that don't look at a node
 sum_ignores : (count : ℕ → ℕ) (h : ℕ → World → ℤ) (x : ℕ) (us : List ℕ) → ((u : ℕ) → Among u us → Ignores count (h u) x) → Ignores count (λ w. sum_each (λ u. h u w) us) x

@@ -19,16 +19,13 @@ use Rattle.cell_rings.specs.Rings.{IsRing}
 use Rattle.ring_sums.specs.Tables.{Table, joined}
 use Rattle.ring_sums.proofs.Each.{any_append, yes_or_no}
 use Rattle.ring_sums.proofs.Steps.{scope_after}
+use Rattle.ring_sums.proofs.Same.{any_map}
 use Rattle.plan_sums.specs.Plans.{Cells, has, node_table, utility_table}
 use Rattle.plan_sums.proofs.Filters.{has_yes, has_member}
 use Rattle.scope_sums.proofs.Summed.{scope_is_closed, goal_in_scope}
 use Rattle.joint_sums.specs.Joint.{scope_nodes, joint_ruled, joint_summed, joint_tables, AreGoals}
 use Rattle.joint_sums.specs.Laws.{JointKeeps}
 use Rattle.joint_sums.proofs.ScopeNodes.{halves, ruled_node, ruled_in, summed_in, summed_out, parent_node, goal_parent, family_node}
-
-any_map : {X Y : Type 0} (p : Y → Bool) (f : X → Y) (xs : List X) → list_any p (map f xs) ≡ list_any (λ x. p (f x)) xs
-any_map p f [] = refl
-any_map p f (x ∷ xs) = ap (λ b. p (f x) || b) (any_map p f xs)
 
 first_of : (us : List ℕ) → 0 < length us → (u : ℕ) × Among u us
 first_of [] l = absurd (omega arith)

@@ -1,5 +1,5 @@
 -- The sizes of the cells when goals are summed together, and that each step finds a table.
-use Rattle.std.proofs.Common.{◌≡◌, ◌∙◌, ℕ, ◌<◌, ◌≤◌, ◌*◌, max, Bool, true, false, cond, ◌||◌, map, List, [], ◌∷◌, ◌++◌, refl, sym, ap, subst, inl, inr, arith, Contains, nat_abs, le_trans, le_refl, le_of_eq}
+use Rattle.std.proofs.Common.{◌≡◌, ◌∙◌, ℕ, ◌<◌, ◌≤◌, ◌*◌, max, Bool, true, false, cond, ◌||◌, map, List, ◌++◌, refl, sym, ap, subst, arith, Contains, nat_abs, le_trans, le_refl, le_of_eq}
 use Rattle.std.proofs.Math.Path.{fun_ext}
 use Rattle.maid_model.specs.Gains.{greatest_abs}
 use Rattle.maid_model.specs.Graph.{IsGraph, AllDifferent}
@@ -25,15 +25,11 @@ use Rattle.ring_sums.proofs.Sums.{product_append}
 use Rattle.plan_sums.specs.Plans.{Cells, mass_cells, has, node_table, utility_table, value_of}
 use Rattle.plan_sums.specs.Sizes.{AreSized, value_bound}
 use Rattle.plan_sums.proofs.Looks.{node_looks, utility_looks}
-use Rattle.plan_sums.proofs.Sized.{nat_product_is, weights_sum, weight_le, cell_le}
+use Rattle.plan_sums.proofs.Sized.{cell_le, map_same, nat_product_is, weight_le, weights_sum}
 use Rattle.scope_sums.proofs.Summed.{product_at}
 use Rattle.joint_sums.specs.Joint.{joint_ruled, joint_summed, joint_tables, joint_bound, IsJointOrder, AreGoals}
 use Rattle.joint_sums.specs.Laws.{JointFits, JointHolds}
 use Rattle.joint_sums.proofs.ScopeNodes.{node_kind, ruled_node, ruled_apart, summed_ruled}
-
-map_same : {Y : Type 0} (f g : ℕ → Y) (xs : List ℕ) → ((v : ℕ) → Among v xs → f v ≡ g v) → map f xs ≡ map g xs
-map_same f g [] h = refl
-map_same f g (x ∷ xs) h = (λ i. h x (inl refl) i ∷ map_same f g xs (λ v m. h v (inr m)) i)
 
 product_same : (f g : ℕ → ℕ) (xs : List ℕ) → ((v : ℕ) → Among v xs → f v ≡ g v) → ring_product mass_ring f xs ≡ ring_product mass_ring g xs
 product_same f g xs h = nat_product_is f xs ∙ product_at f g xs h ∙ sym (nat_product_is g xs)

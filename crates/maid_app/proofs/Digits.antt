@@ -1,5 +1,5 @@
 -- The digits of small numbers, and the search for the number whose digits a word is.
-use Rattle.std.proofs.Common.{◌≡◌, ◌∙◌, ℕ, suc, ◌+◌, ◌-◌, ◌/◌, ◌%◌, ◌<◌, ◌≤◌, Bool, true, false, cond, [], ◌∷◌, ◌++◌, None, Some, ap, arith, decimal}
+use Rattle.std.proofs.Common.{◌≡◌, ◌∙◌, ℕ, suc, ◌+◌, ◌-◌, ◌/◌, ◌%◌, ◌<◌, ◌≤◌, Bool, true, false, cond, [], ◌∷◌, ◌++◌, Some, ap, arith, decimal}
 use Rattle.std.proofs.lemmas.Fmt.{decimal_digit, decimal_step}
 use Rattle.std.specs.Prelude.{find}
 use Rattle.std.specs.List.{range_with_len}
@@ -17,7 +17,3 @@ found_here p k h e = step p k h ∙ ap (λ b. cond b (Some k) (find p (range_wit
 
 pub found_behind : (p : ℕ → Bool) (k : ℕ) → k ≤ 60 → p k ≡ false → find p (range_with_len k (61 - k)) ≡ find p (range_with_len (k + 1) (61 - (k + 1)))
 found_behind p k h e = step p k h ∙ ap (λ b. cond b (Some k) (find p (range_with_len (k + 1) (61 - (k + 1))))) e
-
--- and none is behind 60
-pub found_nowhere : (p : ℕ → Bool) (k : ℕ) → 60 < k → find p (range_with_len k (61 - k)) ≡ None
-found_nowhere p k h = let e : 61 - k ≡ 0 = omega (arith, h) in ap (λ n. find p (range_with_len k n)) e

@@ -8,7 +8,7 @@ use Rattle.std.specs.List.{flat_map, range_with_len}
 use Rattle.finite_sums.proofs.Ranges.{range_push}
 use Rattle.maid_model.specs.Names.{NamesView}
 use Rattle.maid_model.specs.Nodes.{IsDecision, node_at, is_decision}
-use Rattle.maid_model.specs.Placing.{IsRelianceOrder, IsRelianceCycle, IsTrail, Remains}
+use Rattle.maid_model.specs.Placing.{IsRelianceCycle, IsTrail, Remains}
 use Rattle.maid_model.specs.Relevance.{ReliesOn}
 use Rattle.maid_model.specs.Reports.{names_line}
 use Rattle.maid_model.specs.Views.{NodeView}
@@ -16,10 +16,6 @@ use Rattle.relevance_graph.specs.Relevant.{IsRelevance, IsOutcome}
 use Rattle.relevance_graph.specs.Views.{RelevanceView, relied_on_by}
 use Rattle.maid_app.specs.Graph.{relies_line, IsLastLine, OfOrder, OfCycle}
 use Rattle.maid_app.specs.GraphLines.{relies_line_of}
-
--- an order of solving has decisions alone
-pub order_within : (nodes : List NodeView) (order : List ℕ) → IsRelianceOrder nodes order → All (λ v. v < length nodes) order
-order_within nodes order is k d h = subst (λ v. v < length nodes) (get_or_default order k 0 d h) ((is.placing k h).0.0.0.within)
 
 trail_within : (nodes : List NodeView) (placed trail : List ℕ) → IsTrail (Remains (IsDecision nodes) placed) (ReliesOn nodes) trail → (k : ℕ) → k < length trail → get_or trail k 0 < length nodes
 trail_within nodes placed trail is zero h = (is.first h).0.0.within

@@ -313,15 +313,15 @@ fn form_by_row<'a>(
     ensures { IsFormOf result (request_by_row word.now file.now node.now row.now state.now) }
 {
     match word {
-        "threshold" => match row_in_word(row.as_bytes()) {
-            Some(row) => Some(Form::Text(TextForm::Threshold {
+        "threshold" => {
+            let row = row_in_word(row.as_bytes())?;
+            Some(Form::Text(TextForm::Threshold {
                 file,
                 node,
                 row,
                 state,
-            })),
-            None => None,
-        },
+            }))
+        }
         _ => None,
     }
 }

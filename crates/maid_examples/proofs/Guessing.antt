@@ -34,10 +34,6 @@ to_alike_1 = (1, omega arith, refl)
 to_pay : Arc told 1 4
 to_pay = (0, omega arith, refl)
 
--- the coins have no parents
-no_parent_0 : (v : ℕ) → Arc told v 0 → ⊥
-no_parent_0 v a = among_of [] v a
-
 no_parent_1 : (v : ℕ) → Arc told v 1 → ⊥
 no_parent_1 v a = among_of [] v a
 

@@ -1,5 +1,5 @@
 -- The diagrams of the tests with their rules have room for their sums.
-use Rattle.std.proofs.Common.{◌≡◌, ◌∙◌, ℕ, ◌*◌, ◌^◌, max, Bool, true, false, ◌||◌, not, leb, List, [], ◌∷◌, ◌++◌, length, sym, ap, subst₂, leb-true}
+use Rattle.std.proofs.Common.{◌≡◌, ◌∙◌, ℕ, ◌*◌, ◌^◌, max, Bool, true, false, ◌||◌, not, leb, List, length, sym, ap, subst₂, leb-true}
 use Rattle.std.specs.List.{list_all}
 use Rattle.maid_model.specs.Views.{DiagramView, RuleView}
 use Rattle.maid_model.specs.Nodes.{node_at, numbers_of, is_decision}
@@ -8,10 +8,6 @@ use Rattle.maid_model.specs.Profiles.{IsProfile, uniform_profile}
 use Rattle.maid_model.specs.Gains.{mass, base_mass, greatest_utility}
 use Rattle.maid_examples.specs.Trial.{HasRoomForTrial}
 use Rattle.maid_examples.proofs.Members.{at_number}
-
--- a list with one more item
-pub pushed : {X : Type 0} {items before known : List X} {item same : X} → items ≡ before ++ item ∷ [] → before ≡ known → item ≡ same → items ≡ known ++ same ∷ []
-pushed e f g = e ∙ (λ i. f i ++ g i ∷ [])
 
 -- what the mass is multiplied by
 abbrev pub scale : DiagramView → ℕ

@@ -1,14 +1,14 @@
 -- A sum over the worlds that agree with a given one at some nodes.
-use Rattle.std.proofs.Common.{◌≡◌, ◌≢◌, ◌∙◌, ℕ, zero, suc, ◌<◌, ◌+◌, ◌*◌, ◌/◌, ◌%◌, Bool, true, false, cond, ◌&&◌, eqb, List, [], ◌∷◌, refl, sym, ap, inl, inr, ℤ, pos, ◌+ℤ◌, ◌*ℤ◌, arith}
+use Rattle.std.proofs.Common.{◌≡◌, ◌≢◌, ◌∙◌, ℕ, zero, suc, ◌<◌, ◌+◌, ◌*◌, Bool, true, false, cond, ◌&&◌, eqb, List, [], ◌∷◌, refl, sym, ap, inl, inr, ℤ, pos, ◌+ℤ◌, ◌*ℤ◌, arith}
 use Rattle.std.proofs.lemmas.Int.{ints}
 use Rattle.std.proofs.lemmas.Bool.Decides.{nat_tests}
-use Rattle.std.proofs.lemmas.Nat.{div-mul-add, mod-mul-add}
 use Rattle.std.proofs.Math.Decide.{ℕ_discrete}
 use Rattle.std.proofs.Math.Path.{fun_ext}
 use Rattle.finite_sums.specs.Members.{Among}
 use Rattle.finite_sums.specs.Looks.{IgnoresAll}
 use Rattle.finite_sums.specs.Sums.{World, with_state, sum_below, sum_over, product_over, InRange}
 use Rattle.maid_model.specs.Tables.{row_from}
+use Rattle.maid_model.proofs.Bases.{digits}
 use Rattle.finite_sums.proofs.Ints.{mul_assoc, zero_mul, one_mul}
 use Rattle.finite_sums.proofs.Sums.{sum_below_cong, sum_below_zero, sum_over_out, with_same, with_other, with_in}
 use Rattle.finite_sums.specs.Members.{Avoids}
@@ -100,8 +100,6 @@ pub fix_is : (os : List ℕ) (q w : World) → ((v : ℕ) → Avoids v os → w 
 fix_is os q w h = fun_ext (fix_at os q w h)
 
 -- ---- rows tell the parents' states apart
-digits : (r s x y c : ℕ) → x < c → y < c → r * c + x ≡ s * c + y → (r ≡ s) × (x ≡ y)
-digits r s x y c h k e = (sym (div-mul-add r c x h) ∙ ap (λ n. n / c) e ∙ div-mul-add s c y k, sym (mod-mul-add r c x h) ∙ ap (λ n. n % c) e ∙ mod-mul-add s c y k)
 
 -- equal rows mean equal states of the parents
 pub rows_agree : (count : ℕ → ℕ) (w q : World) → InRange count w → InRange count q → (us : List ℕ) (r s : ℕ) → row_from count w r us ≡ row_from count q s us → (r ≡ s) × ((u : ℕ) → Among u us → w u ≡ q u)

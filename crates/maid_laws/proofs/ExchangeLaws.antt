@@ -24,8 +24,8 @@ use Rattle.maid_laws.proofs.Members.{among_of}
 use Rattle.maid_laws.proofs.Notions.{IsBest, InOrder, SameForOthers, gain_from_start, mass_from_start}
 use Rattle.maid_laws.proofs.Orders.{ordered}
 use Rattle.maid_model.proofs.Uniform.{uniform_is_profile}
+use Rattle.maid_model.proofs.Weighing.{pos_at}
 use Rattle.maid_laws.proofs.Rules.{one_of, decision_kind, uniform_like}
-use Rattle.maid_laws.proofs.Signs.{at_pos}
 use Rattle.maid_laws.proofs.Tied.{decision_of, dec_decision, tables_of}
 
 module _ (nodes : List NodeView) (g : IsGraph nodes) (c : HasChanceTables nodes) (s : List RuleView) (b : IsBestInBases nodes s) where
@@ -34,7 +34,7 @@ module _ (nodes : List NodeView) (g : IsGraph nodes) (c : HasChanceTables nodes)
       → (x : ℕ) × (x < states_of nodes d) × ((i : ℕ) → i < states_of nodes d → pos (weight_at nodes s d i row) ≡ cond (eqb i x) (pos 1) (pos 0))
   chosen d row k l =
       one_of (states_of nodes d) (λ x. weight_at nodes s d x row)
-      (sum_below_cong (states_of nodes d) (λ i. pos (weight_at nodes s d i row)) (λ i. slice_index_or (map pos (weights_of s d)) (row * states_of nodes d + i) (pos 0)) (λ i m. sym (at_pos (weights_of s d) (row * states_of nodes d + i)))
+      (sum_below_cong (states_of nodes d) (λ i. pos (weight_at nodes s d i row)) (λ i. slice_index_or (map pos (weights_of s d)) (row * states_of nodes d + i) (pos 0)) (λ i m. sym (pos_at (weights_of s d) (row * states_of nodes d + i)))
       ∙ (b.profile.rule d k).table.row row l ∙ ap pos (b.pure d k))
 
   -- that state, where the decision has the row

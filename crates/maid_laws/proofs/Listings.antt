@@ -70,14 +70,6 @@ module _ (nodes : List NodeView) (g : IsGraph nodes) (order start : List ℕ) (l
   apart : Apart order
   apart = apart_of order listing.once
 
-  -- the nodes of the start
-  abbrev started : ℕ → Bool
-  started = in_start order start
-
-  -- and its world
-  abbrev q : World
-  q = world_of_history order start
-
   -- places of the history are places of the list
   longer : (i : ℕ) → i < length start → i < length order
   longer i l = let k : length start ≤ length order = history.within in omega arith

@@ -78,7 +78,7 @@ order_one Item Needs xs ys a b = go (dec_lt (length xs) (length ys)) (dec_lt (le
 
 -- ---- one base
 -- lists of numbers are the same or differ
-list_dec : (xs ys : List ℕ) → Dec (xs ≡ ys)
+pub list_dec : (xs ys : List ℕ) → Dec (xs ≡ ys)
 list_dec [] [] = yes refl
 list_dec [] (y ∷ ys) = no (λ e. cc)
 list_dec (x ∷ xs) [] = no (λ e. cc)
@@ -198,11 +198,6 @@ module _ (d : DiagramView) (one other : SolvedView) (g : IsGraph d.nodes) (c : H
           let less : f.0 < i = let t : length (take i one.order) ≤ i = (let w = length-take i one.order in omega arith) in let u : f.0 < length (take i one.order) = f.1 in omega arith in
           let is : slice_index one.order f.0 ≡ e = sym (get_or-take i one.order f.0 0 less) ∙ f.2 in
           subst (λ v. rows_at one.answers v ≡ rows_at other.answers v) is (before f.0 (omega arith) (omega arith))
-
-  rows_everywhere : (v : ℕ) → IsDecision d.nodes v → rows_at one.answers v ≡ rows_at other.answers v
-  rows_everywhere v k =
-      let f = index_of v one.order (among_of v one.order (a.order.complete v k)) in
-      subst (λ v. rows_at one.answers v ≡ rows_at other.answers v) f.2 (rows_at_place (suc f.0) f.0 (omega arith) f.1)
 
   answers_same : one.answers ≡ other.answers
   answers_same =

@@ -216,13 +216,6 @@ module _ (nodes : List NodeView) (p : List RuleView) (d : ℕ) (fixed : ℕ → 
   apart : Apart (numbers_of nodes)
   apart = range_apart 0 (length nodes)
 
-  -- what matters, and what of it is free
-  abbrev K : List ℕ
-  K = filter matters (numbers_of nodes)
-
-  abbrev V : List ℕ
-  V = filter (λ v. not (fixed v)) (filter matters (numbers_of nodes))
-
   -- no number stands twice there
   apart_K : Apart (filter matters (numbers_of nodes))
   apart_K = apart_filter matters (numbers_of nodes) apart

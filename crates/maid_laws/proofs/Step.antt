@@ -14,12 +14,12 @@ use Rattle.maid_model.specs.Views.{NodeView, RuleView}
 use Rattle.finite_sums.proofs.Ints.{mul_comm, mul_one, mul_add, add_mul, products}
 use Rattle.finite_sums.proofs.Sums.{sum_below_cong, sum_below_mul, sum_over_cong, sum_over_mul, with_same, with_other}
 use Rattle.maid_model.proofs.Tables.{row_of-below, table_ignores, table-total}
+use Rattle.maid_model.proofs.Adding.{product_not_negative}
 use Rattle.finite_sums.proofs.Lists.{avoids, among_filter}
 use Rattle.maid_laws.proofs.Booleans.{eqb_yes, eqb_no}
 use Rattle.maid_laws.proofs.Basis.{Setup, Tells, Totals, among_filter_in, product_over-cong, table_same, LooksAtParents}
 use Rattle.maid_laws.proofs.Collapse.{one_if, sum_below_at}
 use Rattle.maid_laws.proofs.Rearranged.{apart_filter}
-use Rattle.maid_laws.proofs.Signs.{product_not_negative}
 use Rattle.maid_laws.proofs.Summed.{FromD, summed_out, product_changed, sum_over_below, picked}
 
 -- the tables from a start: where the start has the node, 1 at the start's state and else 0

@@ -35,17 +35,17 @@ use Rattle.maid_model.proofs.Uniform.{sum_ones}
 use Rattle.maid_model.proofs.Weighing.{tables_of, pos_at, base_positive, product_positive}
 
 -- ---- no weight is below nought
-cell_not_negative : (k : Kind) (cells : List ℤ) (weights : List ℕ) (rows states total c : ℕ) → TableFits k cells weights rows states total → pos 0 ≤ℤ table_by k cells weights c
+pub cell_not_negative : (k : Kind) (cells : List ℤ) (weights : List ℕ) (rows states total c : ℕ) → TableFits k cells weights rows states total → pos 0 ≤ℤ table_by k cells weights c
 cell_not_negative Chance cells weights rows states total c t = t.not_negative c
 cell_not_negative Decision cells weights rows states total c t = omega (arith, ints)
 cell_not_negative Utility cells weights rows states total c t = omega (arith, ints)
 
-product_not_negative : (a b : ℤ) → pos 0 ≤ℤ a → pos 0 ≤ℤ b → pos 0 ≤ℤ (a *ℤ b)
+pub product_not_negative : (a b : ℤ) → pos 0 ≤ℤ a → pos 0 ≤ℤ b → pos 0 ≤ℤ (a *ℤ b)
 product_not_negative (pos a) (pos b) h k = omega (arith, ints)
 product_not_negative (pos a) (negsuc b) h k = absurd (omega (arith, ints))
 product_not_negative (negsuc a) b h k = absurd (omega (arith, ints))
 
-products_not_negative : (f : ℕ → ℤ) (vs : List ℕ) → ((v : ℕ) → Among v vs → pos 0 ≤ℤ f v) → pos 0 ≤ℤ product_over f vs
+pub products_not_negative : (f : ℕ → ℤ) (vs : List ℕ) → ((v : ℕ) → Among v vs → pos 0 ≤ℤ f v) → pos 0 ≤ℤ product_over f vs
 products_not_negative f [] h = omega (arith, ints)
 products_not_negative f (v ∷ vs) h = product_not_negative (f v) (product_over f vs) (h v (inl refl)) (products_not_negative f vs (λ u m. h u (inr m)))
 

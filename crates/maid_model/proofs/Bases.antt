@@ -56,7 +56,7 @@ pub record BaseSoFar (nodes : List NodeView) (p : List RuleView) (d : ℕ) (mark
   pub mass : (row : ℕ) → row < rows_of nodes d → pos (slice_index masses row) +ℤ sum_list (mass_term nodes p d row) (worlds_from (counts_of nodes) xs) ≡ mass_at nodes p d row
   pub mass_bound : (row : ℕ) → slice_index masses row ≤ m
 
-digits : (r s x y c : ℕ) → x < c → y < c → r * c + x ≡ s * c + y → (r ≡ s) × (x ≡ y)
+pub digits : (r s x y c : ℕ) → x < c → y < c → r * c + x ≡ s * c + y → (r ≡ s) × (x ≡ y)
 digits r s x y c h k e = (sym (div-mul-add r c x h) ∙ ap (λ n. n / c) e ∙ div-mul-add s c y k, sym (mod-mul-add r c x h) ∙ ap (λ n. n % c) e ∙ mod-mul-add s c y k)
 
 -- a state that the code read off a world

@@ -8,6 +8,7 @@ use Rattle.std.specs.List.{range_with_len}
 use Rattle.finite_sums.specs.Sums.{World, with_state, sum_below, sum_over}
 use Rattle.maid_model.specs.Worlds.{sum_list, worlds, world_of}
 use Rattle.finite_sums.proofs.Sums.{sum_below_cong}
+use Rattle.finite_sums.proofs.Ranges.{range_push}
 
 pub sum_list-append : {X : Type 0} (f : X → ℤ) (xs ys : List X) → sum_list f (xs ++ ys) ≡ sum_list f xs +ℤ sum_list f ys
 sum_list-append f [] ys = sym (+ℤ_idl (sum_list f ys))
@@ -24,14 +25,10 @@ sum_list-flat_map f g (x ∷ xs) = sum_list-append f (g x) (flat_map g xs) ∙ a
 pub sum_list-cong : {X : Type 0} (f g : X → ℤ) → ((x : X) → f x ≡ g x) → (xs : List X) → sum_list f xs ≡ sum_list g xs
 sum_list-cong f g h xs = ap (λ k. sum_list k xs) (fun_ext h)
 
-range-push : (k n : ℕ) → range_with_len k (suc n) ≡ range_with_len k n ++ (k + n) ∷ []
-range-push k zero = ap (λ x. x ∷ []) (omega arith)
-range-push k (suc n) = ap (λ x. k ∷ x) (range-push (k + 1) n ∙ ap (λ x. range_with_len (k + 1) n ++ x ∷ []) (omega arith))
-
 sum_list-range : (n : ℕ) (f : ℕ → ℤ) → sum_list f (range_with_len 0 n) ≡ sum_below n f
 sum_list-range zero f = refl
 sum_list-range (suc n) f =
-    ap (sum_list f) (range-push 0 n) ∙ sum_list-append f (range_with_len 0 n) ((0 + n) ∷ [])
+    ap (sum_list f) (range_push 0 n) ∙ sum_list-append f (range_with_len 0 n) ((0 + n) ∷ [])
     ∙ omega (arith, ints, sum_list-range n f, ap f (z n))
   where
     z : (n : ℕ) → 0 + n ≡ n

@@ -51,9 +51,6 @@ path_join A (Along b p) to q = Along b (path_join A p to q)
 pub descends_more : (A : ℕ → ℕ → Type 0) (u v w : ℕ) → Descends A u v → A v w → Descends A u w
 descends_more A u v w (x, a, p) b = (x, a, path_more A p w b)
 
-pub descends_join : (A : ℕ → ℕ → Type 0) (u v w : ℕ) → Descends A u v → Descends A v w → Descends A u w
-descends_join A u v w (x, a, p) (y, b, q) = (x, a, path_join A p w (Along b q))
-
 module _ (nodes : List NodeView) (u : ℕ) where
   -- a parent that is u, or to which a path of n arcs leads
   abbrev near : ℕ → ℕ → Bool

@@ -7,8 +7,8 @@ use Rattle.finite_sums.specs.Members.{Among}
 use Rattle.finite_sums.proofs.Members.{range_within, range_has}
 use Rattle.maid_model.proofs.Next.{IsWorld-tail}
 
--- a world of the list, by cases
-abbrev Member : List ℕ → List (List ℕ) → Type 0
+-- a list of the lists, by cases
+abbrev pub Member : List ℕ → List (List ℕ) → Type 0
 Member x [] = ⊥
 Member x (y ∷ ys) = (x ≡ y) ⊎ Member x ys
 
@@ -31,7 +31,7 @@ member_right : (x : List ℕ) (xs ys : List (List ℕ)) → Member x ys → Memb
 member_right x [] ys h = h
 member_right x (y ∷ xs) ys h = inr (member_right x xs ys h)
 
-member_either : (x : List ℕ) (xs ys : List (List ℕ)) → Member x (xs ++ ys) → Member x xs ⊎ Member x ys
+pub member_either : (x : List ℕ) (xs ys : List (List ℕ)) → Member x (xs ++ ys) → Member x xs ⊎ Member x ys
 member_either x [] ys h = inr h
 member_either x (y ∷ xs) ys (inl e) = inl (inl e)
 member_either x (y ∷ xs) ys (inr m) = elim (member_either x xs ys m) [ inl k ↦ inl (inr k) | inr k ↦ inr k ]
@@ -42,7 +42,7 @@ member_map s x (y ∷ ys) (inl e) = inl (ap (λ l. s ∷ l) e)
 member_map s x (y ∷ ys) (inr m) = inr (member_map s x ys m)
 
 -- a world of a block begins with the block's state
-member_of_map : (s : ℕ) (x : List ℕ) (xs : List (List ℕ)) → Member x (map (λ ys. s ∷ ys) xs) → (r : List ℕ) × (x ≡ s ∷ r) × Member r xs
+pub member_of_map : (s : ℕ) (x : List ℕ) (xs : List (List ℕ)) → Member x (map (λ ys. s ∷ ys) xs) → (r : List ℕ) × (x ≡ s ∷ r) × Member r xs
 member_of_map s x [] h = absurd h
 member_of_map s x (y ∷ ys) (inl e) = (y, e, inl refl)
 member_of_map s x (y ∷ ys) (inr m) = let r = member_of_map s x ys m in (r.0, r.1, inr r.2)
@@ -136,7 +136,7 @@ apart : (cs : List ℕ) → Apart (worlds cs)
 apart [] = ((λ y m. absurd m), tt)
 apart (c ∷ cs) = apart_blocks cs (apart cs) 0 c
 
-member_at : (xs : List (List ℕ)) (j : ℕ) (d : List ℕ) → j < length xs → Member (slice_index_or xs j d) xs
+pub member_at : (xs : List (List ℕ)) (j : ℕ) (d : List ℕ) → j < length xs → Member (slice_index_or xs j d) xs
 member_at [] j d k = absurd (omega arith)
 member_at (y ∷ ys) zero d k = inl refl
 member_at (y ∷ ys) (suc j) d k = inr (member_at ys j d (omega arith))

@@ -36,7 +36,7 @@ pub record RowSoFar (nodes : List NodeView) (v : ℕ) (w : World) (row : ℕ) (u
   pub parents : us ≡ parents_of nodes v
   pub rest : row_from (states_of nodes) w row (drop i us) ≡ row_of nodes v w
 
-row_from-ge : (count : ℕ → ℕ) (w : World) → ((v : ℕ) → 0 < count v) → (us : List ℕ) (row : ℕ) → row ≤ row_from count w row us
+pub row_from-ge : (count : ℕ → ℕ) (w : World) → ((v : ℕ) → 0 < count v) → (us : List ℕ) (row : ℕ) → row ≤ row_from count w row us
 row_from-ge count w h [] row = omega arith
 row_from-ge count w h (u ∷ us) row = le row (count u) (w u) (row_from count w (row * count u + w u) us) (h u) (row_from-ge count w h us (row * count u + w u))
   where

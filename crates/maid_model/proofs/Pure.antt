@@ -55,7 +55,7 @@ not_below n = omega (arith, ints)
 row_length : (states c : ℕ) → length (pure_row states c) ≡ states
 row_length states c = length-map-range_with_len (chosen c) 0 states
 
-rows_length : (states : ℕ) (choices : List ℕ) → length (flat_map (pure_row states) choices) ≡ length choices * states
+pub rows_length : (states : ℕ) (choices : List ℕ) → length (flat_map (pure_row states) choices) ≡ length choices * states
 rows_length states [] = none states
   where
     none : (n : ℕ) → 0 ≡ 0 * n

@@ -30,7 +30,7 @@ abs_add (negsuc a) (negsuc b) = omega (arith, ints)
 abbrev pub greatest_at : List NodeView → ℕ → ℕ
 greatest_at nodes v = cond (is_utility (node_at nodes v).kind) (greatest_abs (node_at nodes v).cells) 0
 
-cell_abs : (cells : List ℤ) (i : ℕ) → nat_abs (slice_index_or cells i (pos 0)) ≤ greatest_abs cells
+pub cell_abs : (cells : List ℤ) (i : ℕ) → nat_abs (slice_index_or cells i (pos 0)) ≤ greatest_abs cells
 cell_abs [] i = omega arith
 cell_abs (x ∷ xs) zero = omega arith
 cell_abs (x ∷ xs) (suc i) = omega (arith, cell_abs xs i)

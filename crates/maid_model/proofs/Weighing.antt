@@ -25,10 +25,6 @@ use Rattle.maid_model.proofs.Picked.{world_in_range}
 use Rattle.maid_model.proofs.Tables.{row_of-below}
 
 -- ---- a diagram and a profile have tables
-past_end : (nodes : List NodeView) (v : ℕ) → length nodes ≤ v → (node_at nodes v).kind ≡ Utility
-past_end [] v h = refl
-past_end (n ∷ ns) zero h = absurd (omega arith)
-past_end (n ∷ ns) (suc v) h = past_end ns v (omega arith)
 
 pub decision_within : (nodes : List NodeView) (v : ℕ) → (node_at nodes v).kind ≡ Decision → v < length nodes
 decision_within [] v h = absurd (cc)

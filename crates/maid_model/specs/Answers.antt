@@ -120,6 +120,16 @@ pub record FitsAnswer (nodes : List NodeView) (answer : AnswerView) : Type 0 whe
   pub choices : All (λ r. r.choice < states_of nodes answer.decision) answer.rows
   pub worths : All (λ r. IfSome r.worth IsReduced) answer.rows
 
+-- no row says what it is worth
+abbrev pub HasNoWorths : AnswerView → Type 0
+HasNoWorths answer = All (λ (r : Row). r.worth ≡ None) answer.rows
+
+-- answers in text order, with a choice in range for each choice of the parents' states, and without worths
+pub record AreChoices (nodes : List NodeView) (answers : List AnswerView) : Type 0 where
+  pub follow : map (λ (a : AnswerView). a.decision) answers ≡ decisions_of nodes
+  pub fits : All (FitsAnswer nodes) answers
+  pub worthless : All HasNoWorths answers
+
 -- it is so where there is a row for each choice of the decision's parents' states, with choices in range
 abbrev pub WhereRowsFit : List NodeView → ℕ → List Row → Type 0 → Type 0
 WhereRowsFit nodes v rows So =

@@ -1,12 +1,29 @@
 //! Answers: rows, worths and gains.
 
+ghost use Rattle.std.specs.Prelude.{◌<◌, ◌≤◌, nat_abs};
+ghost use Rattle.maid_model.specs.Answers.{IsFraction};
+ghost use Rattle.maid_model.specs.Diagrams.{greatest_number};
+
 use std::marker::Model;
+use whole_num::reduce;
 
 /// A fraction.
 #[derive(Clone, Copy, Debug, PartialEq, Eq)]
 pub struct Ratio {
     pub num: i128,
     pub den: u128,
+}
+
+impl Ratio {
+    /// The fraction of two numbers, in lowest terms.
+    pub fn reduced(num: i128, den: u128) -> Ratio
+        requires den { 0 < den }
+        requires num { nat_abs num ≤ greatest_number }
+        ensures { IsFraction result num den }
+    {
+        let (num, den) = reduce(num, den);
+        Ratio { num, den }
+    }
 }
 
 /// What is answered in one row of a decision: the chosen state, counted from 0, and what it is worth, or `None` where

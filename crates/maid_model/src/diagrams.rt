@@ -1,14 +1,14 @@
 //! Nodes and diagrams.
 
-ghost use Rattle.std.specs.Prelude.{◌≡◌, ℕ, ◌<◌, ◌≤◌, ◌↔◌, ◌^◌, length, Contains, IsTrue, pos, ◌≤ℤ◌, nat_abs, slice_index_or};
+ghost use Rattle.std.specs.Prelude.{◌≡◌, ℕ, ◌<◌, ◌≤◌, ◌↔◌, ◌^◌, length, Contains, IfOk, IsTrue, pos, ◌≤ℤ◌, nat_abs, slice_index_or};
 ghost use Rattle.maid_model.specs.Diagrams.{IsDiagram};
-ghost use Rattle.maid_model.specs.Nodes.{IsDecision, IsOwnedBy, agent_of, is_decision, node_at, parents_of, rows_of, states_of};
+ghost use Rattle.maid_model.specs.Nodes.{IsDecision, IsOwnedBy, agent_of, decisions_of, is_decision, node_at, parents_of, rows_of, states_of};
 ghost use Rattle.maid_model.specs.Views.{diagram_of};
 ghost use Rattle.finite_sums.specs.Sums.{sum_below};
 ghost use Rattle.maid_model.specs.Tables.{chance_total};
 
 use smallvec::SmallVec;
-use std::alloc::Global;
+use std::alloc::{AllocError, Global};
 use std::marker::Model;
 
 /// What a node is.
@@ -174,6 +174,14 @@ impl Diagram {
         self.decimals
     }
 
+    /// By what the utilities are scaled: ten to the power of the decimals.
+    pub fn scale(&self) -> u128
+        ensures scale { result ≡ 10 ^ self.now.decimals }
+        ensures some { 0 < result }
+    {
+        10u128.pow(self.decimals())
+    }
+
     /// Whether the node is a decision of the agent, or a utility that the agent owns, alone or with others.
     pub fn owns(&self, agent: usize, node: usize) -> bool
         requires { node < length self.now.nodes }
@@ -198,6 +206,23 @@ impl Diagram {
             rows *= self.states(*u);
         }
         rows
+    }
+
+    /// The decisions, in text order.
+    ///
+    /// # Errors
+    ///
+    /// Only where memory runs out.
+    pub fn decisions(&self, alloc: Global) -> Result<Vec<usize>, AllocError>
+        ensures { IfOk result (λ decisions. decisions.items ≡ decisions_of self.now.nodes) }
+    {
+        let mut decisions = Vec::new(alloc);
+        for v in 0..self.count() {
+            if self.is_decision(v) {
+                decisions.push(v)?;
+            }
+        }
+        Ok(decisions)
     }
 
     /// What each row of the chance node's table adds up to.

@@ -10,12 +10,12 @@ use Rattle.std.proofs.lemmas.Slice.Eq.{bytes_eq-Decides}
 use Rattle.std.specs.Prelude.{if◌then◌else◌}
 use Rattle.std.specs.Str.{bytes_eq}
 use Rattle.maid_model.specs.Nodes.{is_chance}
+use Rattle.finite_sums.proofs.Sights.{bytes_same}
 use Rattle.net_build.specs.Blocks.{is_node, kind_of, has_agent, owner_texts, agents_of, first_sights, place_among, owner_numbers}
 use Rattle.net_parser.specs.Trees.{BlockTree}
 use Rattle.net_parser.specs.declared.trees.BlockKind.{BlockKind}
 use Rattle.net_parser.specs.declared.trees.BlockKind.TheVariants.{Net, Node, Decision, Utility, Potential}
 use Rattle.net_build.proofs.AttributeLemmas.{or_true}
-use Rattle.net_build.proofs.PlaceLemmas.{bytes_same}
 use Rattle.net_build.proofs.SightLemmas.{has, others, has_others, has-append, has-before, agents_among}
 
 -- each value has its first sight

@@ -37,13 +37,6 @@ map_map : {X Y Z : Type 0} (g : Y → Z) (f : X → Y) (xs : List X) → map g (
 map_map g f [] = refl
 map_map g f (x ∷ xs) = ap (λ l. g (f x) ∷ l) (map_map g f xs)
 
-filter_map_swap : {X Y : Type 0} (p : Y → Bool) (f : X → Y) (xs : List X) → filter p (map f xs) ≡ map f (filter (λ x. p (f x)) xs)
-filter_map_swap p f [] = refl
-filter_map_swap p f (x ∷ xs) = by_test (p (f x)) refl (filter_map_swap p f xs) where
-  by_test : (b : Bool) → p (f x) ≡ b → filter p (map f xs) ≡ map f (filter (λ x. p (f x)) xs) → filter p (f x ∷ map f xs) ≡ map f (filter (λ x. p (f x)) (x ∷ xs))
-  by_test true e rec = ap (λ b. cond b (f x ∷ filter p (map f xs)) (filter p (map f xs))) e ∙ ap (λ l. f x ∷ l) rec ∙ sym (ap (λ b. map f (cond b (x ∷ filter (λ x. p (f x)) xs) (filter (λ x. p (f x)) xs))) e)
-  by_test false e rec = ap (λ b. cond b (f x ∷ filter p (map f xs)) (filter p (map f xs))) e ∙ rec ∙ sym (ap (λ b. map f (cond b (x ∷ filter (λ x. p (f x)) xs) (filter (λ x. p (f x)) xs))) e)
-
 by_places : {X Y : Type 0} (h : X → Y) (xs : List X) (d : X) → map (λ v. h (get_or xs v d)) (range_with_len 0 (length xs)) ≡ map h xs
 by_places h xs d = sym (fill_by_all (λ v. h (get_or xs v d)) (map h xs) (length xs) (h d) (length-map xs h) (λ k l. get_or-map h xs k d (h d) l))
 

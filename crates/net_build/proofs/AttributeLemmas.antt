@@ -4,6 +4,7 @@ use Rattle.std.proofs.lemmas.Bool.{false≢true}
 use Rattle.std.proofs.lemmas.Slice.Eq.{bytes_eq-Decides}
 use Rattle.std.specs.List.{list_any}
 use Rattle.std.specs.Str.{bytes_eq}
+use Rattle.finite_sums.proofs.Sights.{bytes_same}
 use Rattle.net_build.specs.declared.faults.BuildFault.{BuildFault}
 use Rattle.net_build.specs.declared.faults.BuildFault.TheVariants.{Fault}
 use Rattle.net_build.specs.declared.faults.BuildKind.TheVariants as kinds
@@ -15,7 +16,6 @@ use Rattle.net_build.specs.Table.{repeated_row}
 use Rattle.net_parser.specs.declared.trees.BlockKind.{BlockKind}
 use Rattle.net_parser.specs.Trees.{AttributeTree}
 use Rattle.first_fault.proofs.Leading.{Leads, AfterPass, after_skip, after_step, after_refused}
-use Rattle.net_build.proofs.PlaceLemmas.{bytes_same}
 
 -- both sides of an `and`
 pub and_left : (a b : Bool) → (a && b) ≡ true → a ≡ true

@@ -5,12 +5,12 @@ use Rattle.std.proofs.Math.ListN.{get_or-eq_default}
 use Rattle.std.proofs.lemmas.Bool.{false≢true}
 use Rattle.std.proofs.lemmas.List.Sums.{prefix_len_passes}
 use Rattle.std.specs.Str.{bytes_eq}
-use Rattle.net_build.proofs.PlaceLemmas.{bytes_same}
 use Rattle.maid_model.specs.contracts.diagrams.Kind.{the_type}
 use Rattle.maid_model.specs.declared.diagrams.Kind.{Kind}
 use Rattle.maid_model.specs.declared.diagrams.Kind.TheVariants as model
 use Rattle.maid_model.specs.Nodes.{is_utility}
 use denote.Enum.Bare.{sameb}
+use Rattle.finite_sums.proofs.Sights.{bytes_same}
 use Rattle.net_build.specs.declared.nodes.Head.{Head}
 use Rattle.net_build.specs.Blocks.{place_among}
 use Rattle.net_build.specs.Stages.{NodeLists}

@@ -6,6 +6,7 @@ use Rattle.std.proofs.lemmas.Slice.Eq.{bytes_eq-Decides}
 use Rattle.std.specs.List.{list_any, range_with_len}
 use Rattle.std.specs.Result.{IsErr, IsErrAnd}
 use Rattle.std.specs.Str.{bytes_eq}
+use Rattle.finite_sums.proofs.Sights.{bytes_same}
 use Rattle.net_build.specs.declared.faults.BuildFault.{BuildFault}
 use Rattle.net_build.specs.Blocks.{place_among}
 use Rattle.net_build.specs.declared.nodes.Head.{Head}
@@ -17,7 +18,6 @@ use Rattle.net_build.specs.Passes.{Found, build_fault}
 use Rattle.net_build.proofs.AttributeLemmas.{contains_later, contains_cases, contains_none}
 use Rattle.first_fault.proofs.HandedOn.{hands_on}
 use Rattle.first_fault.proofs.Leading.{Leads, leads_on, leads_end, leads_refused, refused_first, refused_later, drop_item, take_item}
-use Rattle.net_build.proofs.PlaceLemmas.{bytes_same}
 
 -- what the items from place i on find, those before having found nothing
 abbrev pub Behind : {X : Type 0} → (List X → X → Pass Found) → List X → ℕ → Pass Found

@@ -8,11 +8,12 @@ use Rattle.std.specs.Prelude.{nat_lt, if◌then◌else◌}
 use Rattle.std.proofs.lemmas.Bool.{cases_lt, lt-ltb, le-ltb}
 use Rattle.std.proofs.lemmas.List.{get_or_default, length-map, map-append}
 use Rattle.std.proofs.lemmas.Slice.Eq.{bytes_eq-Decides}
+use Rattle.finite_sums.proofs.Sights.{bytes_same}
 use Rattle.net_build.specs.Blocks.{place_among}
 use Rattle.maid_model.specs.Names.{list_of}
 use Rattle.net_build.proofs.BlockLemmas.{place_here}
 use Rattle.net_build.proofs.LinkLemmas.{place_within}
-use Rattle.net_build.proofs.PlaceLemmas.{bytes_same, bytes_differ}
+use Rattle.net_build.proofs.PlaceLemmas.{bytes_differ}
 
 -- either name may stand first
 bytes_turned : (a b : List ℕ) → bytes_eq a b ≡ bytes_eq b a

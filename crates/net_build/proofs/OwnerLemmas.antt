@@ -7,6 +7,7 @@ use Rattle.std.specs.Global.{Vec}
 use Rattle.std.specs.List.{list_any}
 use Rattle.std.specs.Prelude.{if◌then◌else◌}
 use Rattle.std.specs.Str.{bytes_eq}
+use Rattle.finite_sums.proofs.Sights.{bytes_same}
 use Rattle.net_build.specs.declared.faults.BuildFault.{BuildFault}
 use Rattle.net_build.specs.declared.faults.BuildFault.TheVariants.{Fault}
 use Rattle.net_build.specs.declared.faults.BuildKind.TheVariants as kinds
@@ -20,7 +21,7 @@ use Rattle.net_build.specs.Table.{IsAgentTooMany, agent_rows, sight_row, owner_r
 use Rattle.net_parser.specs.Trees.{BlockTree}
 use Rattle.net_build.proofs.AttributeLemmas.{contains_none, contains_cases, contains_later, or_true}
 use Rattle.first_fault.proofs.Leading.{passes_on, refused_first, take_item}
-use Rattle.net_build.proofs.PlaceLemmas.{bytes_same, first_place_is}
+use Rattle.net_build.proofs.PlaceLemmas.{first_place_is}
 use Rattle.net_build.proofs.SightLemmas.{has, has_sights, places_grow, sight_adds}
 
 -- a list has a name where the test of one of its names says so

@@ -14,7 +14,7 @@ use Rattle.net_build.specs.Table.{label_row, agent_rows, repeated_agent_row}
 use Rattle.net_lexer.specs.Token.{text_value}
 use Rattle.net_lexer.specs.declared.tokens.Token.{Token}
 use Rattle.net_parser.specs.Owned.{leaves}
-use Rattle.net_parser.specs.Trees.{leaf, AttributeTree}
+use Rattle.net_parser.specs.Trees.{AttributeTree}
 use Rattle.net_build.proofs.AttributeLemmas.{and_left}
 use Rattle.net_build.proofs.LabelLemmas.{one_leaf, some_leaf, not_false}
 
@@ -31,25 +31,9 @@ module _ (text : List ℕ) (a : AttributeTree) where
   one_tells : bytes_eq (word_of text a) (codes "agents") ≡ false → tells_owners text a ≡ (is_string a.value && plain)
   one_tells one = ap (λ b. cond b (is_string_list a.value) (is_string a.value) && plain) one
 
-  pub no_string : bytes_eq (word_of text a) (codes "agents") ≡ false → is_string a.value ≡ false → tells_owners text a ≡ false
-  no_string one bad = one_tells one ∙ ap (λ b. b && plain) bad
-
-  plain_leaf : (t : Token) → a.value ≡ leaf t → plain ≡ (is_label (text_value text t) && true)
-  plain_leaf t is = ap (λ v. list_all (λ t. is_label (text_value text t)) (leaves v)) is
-
-  pub unplain_string : (t : Token) → bytes_eq (word_of text a) (codes "agents") ≡ false → a.value ≡ leaf t → is_label (text_value text t) ≡ false → tells_owners text a ≡ false
-  unplain_string t one is bad = one_tells one ∙ ap (λ b. is_string a.value && b) (plain_leaf t is ∙ ap (λ b. b && true) bad) ∙ and_false (is_string a.value)
-
-  pub plain_string : (t : Token) → bytes_eq (word_of text a) (codes "agents") ≡ false → a.value ≡ leaf t → is_string (leaf t) ≡ true → is_label (text_value text t) ≡ true → tells_owners text a ≡ false → ⊥
-  plain_string t one is string good bad =
-      false≢true (sym bad ∙ one_tells one ∙ (λ j. (ap is_string is ∙ string) j && (plain_leaf t is ∙ ap (λ b. b && true) good) j))
-
   -- an `agents` by all of its list
   list_tells : bytes_eq (word_of text a) (codes "agents") ≡ true → tells_owners text a ≡ (is_string_list a.value && plain)
   list_tells many = ap (λ b. cond b (is_string_list a.value) (is_string a.value) && plain) many
-
-  pub no_list : bytes_eq (word_of text a) (codes "agents") ≡ true → is_string_list a.value ≡ false → tells_owners text a ≡ false
-  no_list many bad = list_tells many ∙ ap (λ b. b && plain) bad
 
   each_plain : (ts : List Token) → each (label_row text) ts None → list_all (λ t. is_label (text_value text t)) ts ≡ true
   each_plain [] h = refl

@@ -5,6 +5,7 @@ use Rattle.std.proofs.lemmas.List.Sums.{prefix_len_is}
 use Rattle.std.proofs.lemmas.Slice.Eq.{bytes_eq-Decides}
 use Rattle.std.specs.Option.{SomeIff}
 use Rattle.std.specs.Str.{bytes_eq}
+use Rattle.finite_sums.proofs.Sights.{bytes_same}
 use Rattle.net_build.specs.Blocks.{place_among}
 use Rattle.maid_model.specs.Names.{IsFirstPlace}
 
@@ -14,10 +15,6 @@ bytes_differ xs ys h = differs (bytes_eq xs ys) (λ e. h ((bytes_eq-Decides xs y
   differs : (b : Bool) → (b ≡ true → ⊥) → b ≡ false
   differs true h = absurd (h refl)
   differs false h = refl
-
--- bytes that are the same are equal as a test
-pub bytes_same : (xs ys : List ℕ) → xs ≡ ys → bytes_eq xs ys ≡ true
-bytes_same xs ys e = (bytes_eq-Decides xs ys).1 e
 
 -- the first place of a name is its place
 pub first_place_is : (names : List (List ℕ)) (name : List ℕ) (place : ℕ) → IsFirstPlace names name place → place_among names name ≡ place

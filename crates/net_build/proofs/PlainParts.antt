@@ -17,8 +17,7 @@ use Rattle.first_fault.proofs.Items.{each_all}
 use Rattle.net_build.specs.Blocks.{is_number, no_token}
 use Rattle.net_build.specs.Scaling.{decimal_at}
 use Rattle.net_build.specs.Table.{number_row, length_row}
-use Rattle.net_build.specs.TableParts.{AreWholeNumbers, IsDraftOf, IsFewDigits, IsPlainTable, few_number, number_rows, data_part}
-use Rattle.net_build.specs.declared.drafts.Draft.TheVariants.{Cells}
+use Rattle.net_build.specs.TableParts.{AreWholeNumbers, IsFewDigits, IsPlainTable, few_number, number_rows, data_part}
 use Rattle.net_build.proofs.DecimalLemmas.{are_none, decimals_step}
 use Rattle.net_build.proofs.DraftLemmas.{chance_clear}
 use Rattle.net_build.proofs.ScaleLemmas.{decimal_of}
@@ -79,6 +78,3 @@ module _ (text : List ℕ) (kind : Kind) (rows states : ℕ) (table : AttributeT
   pub plain_clear : data_part text kind rows states table None
   plain_clear = chance_clear text kind rows states table.name.start table is numbers refl tokens same
       (weight_clear text states rows table.name.start tokens plain.decimals some plain.count (rows_are rows states (length plain.decimals) (length tokens) some plain.count same_len) plain.are plain.weighed.scaled plain.signs plain.totals plain.weighed.is)
-
-  pub plain_drafted : IsDraftOf kind rows states (map (token_bytes text) tokens) (Cells cells)
-  plain_drafted = subst (λ k. IsDraftOf k rows states (map (token_bytes text) tokens) (Cells cells)) (sym is) (plain.decimals, plain.are, plain.weighed, same_len ∙ plain.count)

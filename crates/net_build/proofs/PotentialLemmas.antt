@@ -14,6 +14,7 @@ use Rattle.net_parser.specs.Grammar.{is_potential}
 use Rattle.maid_model.specs.declared.diagrams.Kind.{Kind}
 use Rattle.maid_model.specs.declared.diagrams.Kind.TheVariants.{Chance, Utility}
 use Rattle.maid_model.specs.Nodes.{is_decision}
+use Rattle.finite_sums.proofs.Sights.{bytes_same}
 use Rattle.net_build.specs.declared.faults.BuildFault.{BuildFault}
 use Rattle.net_build.specs.declared.nodes.Head.{Head}
 use Rattle.net_build.specs.Blocks.{title, block_name, conditions, place_among}
@@ -23,7 +24,7 @@ use Rattle.first_fault.specs.Answers.{Passes}
 use Rattle.net_build.specs.Passes.{build_fault}
 use Rattle.net_build.specs.Stages.{head_at, no_head}
 use Rattle.first_fault.proofs.Leading.{filter_front_yes}
-use Rattle.net_build.proofs.PlaceLemmas.{bytes_same, bytes_differ}
+use Rattle.net_build.proofs.PlaceLemmas.{bytes_differ}
 
 -- a place within the list holds the name that was sought
 pub place_holds : (names : List (List ℕ)) (name : List ℕ) → place_among names name < length names → get_or names (place_among names name) [] ≡ name

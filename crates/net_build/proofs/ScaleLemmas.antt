@@ -1,5 +1,5 @@
 -- A numeral's value times a power of ten, by its decimal: when it is whole, and when it is too great.
-use Rattle.std.proofs.Common.{◌≡◌, ◌⊎◌, inl, inr, ◌<◌, ◌≤◌, ◌+◌, ◌-◌, ◌*◌, ◌^◌, ℕ, zero, suc, ℤ, pos, ◌*ℤ◌, unsigned_abs, Bool, true, false, cond, List, [], All, length, get_or, map, refl, sym, ap, subst, ◌∙◌, arith, Option, None, Some}
+use Rattle.std.proofs.Common.{◌≡◌, ◌⊎◌, inl, inr, ◌<◌, ◌≤◌, ◌+◌, ◌-◌, ◌*◌, ◌^◌, ℕ, suc, ℤ, pos, ◌*ℤ◌, unsigned_abs, Bool, true, false, cond, List, [], All, length, get_or, map, refl, sym, ap, subst, ◌∙◌, arith, Option, None, Some}
 use Rattle.std.proofs.Math.Nat.{pow-le-pow_right, mul-pos, mul-le-mul_left, mul-le-mul_right}
 use Rattle.std.proofs.lemmas.Int.{ints, unsigned_abs-mul}
 use borrow.Author.Differences.{up, down, product_is}
@@ -102,10 +102,6 @@ numeral_at text tokens i t h = get_or-map (token_bytes text) tokens i t [] h
 
 pub decimal_of : (text : List ℕ) (tokens : List Token) (ds : List Decimal) (i : ℕ) (t : Token) → AreDecimals (map (token_bytes text) tokens) ds → i < length tokens → IsLeastDecimalOf (numerator (token_bytes text (get_or tokens i t))) (denominator (token_bytes text (get_or tokens i t))) (decimal_at ds i)
 decimal_of text tokens ds i t are h = subst (λ n. IsLeastDecimalOf (numerator n) (denominator n) (decimal_at ds i)) (numeral_at text tokens i t h) (are.each i (let l = length-map tokens (token_bytes text) in omega arith))
-
-zero_or_more : (k : ℕ) → (k ≡ 0) ⊎ (0 < k)
-zero_or_more zero = inl refl
-zero_or_more (suc k) = inr (omega arith)
 
 -- the most decimals of all are the scale
 pub scale_found : (text : List ℕ) (tokens : List Token) (ds : List Decimal) (scale : ℕ) → AreDecimals (map (token_bytes text) tokens) ds → All (λ d. d.k ≤ scale) ds → (0 < scale → (i : ℕ) × (i < length ds) × ((decimal_at ds i).k ≡ scale)) → IsScaleOf text tokens scale

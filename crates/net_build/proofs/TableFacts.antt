@@ -15,6 +15,7 @@ use Rattle.net_lexer.specs.declared.tokens.Token.{Token}
 use Rattle.net_parser.specs.Trees.{BlockTree}
 use Rattle.net_parser.specs.Owned.{IsBlockOf}
 use Rattle.net_parser.specs.Grammar.{is_potential}
+use Rattle.finite_sums.proofs.Sights.{bytes_same}
 use Rattle.net_build.specs.declared.nodes.Head.{Head}
 use Rattle.net_build.specs.Blocks.{node_blocks, potentials, kind_of, block_states, block_name, names_of, place_among, potential_of, potential_list, parent_lists, data_of, leaves_of}
 use Rattle.net_build.specs.Linking.{behind_rows, missing_at, absent_row}
@@ -25,7 +26,6 @@ use Rattle.net_build.proofs.BlockLemmas.{each_after_at, all_filter, all_flat, fo
 use Rattle.net_build.proofs.LinkLemmas.{number_at}
 use Rattle.net_build.proofs.LinkPasses.{taken_from}
 use Rattle.net_build.proofs.NodeFacts.{only_on}
-use Rattle.net_build.proofs.PlaceLemmas.{bytes_same}
 use Rattle.net_build.proofs.TablePasses.{head_here, potential_here}
 
 if_some_by : {X : Type 0} (Q : X → Type 0) (o : Option X) → ((x : X) → o ≡ Some x → Q x) → IfSome o Q

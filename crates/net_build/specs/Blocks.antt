@@ -84,12 +84,6 @@ has_agent Decision = true
 has_agent Utility = true
 has_agent kind = false
 
--- a chance node and a utility have a table
-abbrev pub has_table : BlockKind → Bool
-has_table Node = true
-has_table Utility = true
-has_table kind = false
-
 -- several agents may share a utility
 abbrev pub may_share : BlockKind → Bool
 may_share Utility = true

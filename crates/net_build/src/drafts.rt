@@ -1,7 +1,7 @@
 //! The tables of nodes, one by one, before the scale of utilities is known.
 
 ghost use Rattle.std.specs.Prelude.{◌≡◌, ◌≢◌, ◌<◌, ◌≤◌, ◌*◌, true, IfOk, IfSome, IsSome};
-ghost use Rattle.maid_model.specs.declared.limits.TheConstants.{MOST_CELLS};
+ghost use Rattle.maid_model.specs.declared.limits.TheConstants.{MOST_CELLS, MOST_DECIMALS};
 ghost use Rattle.maid_model.specs.declared.diagrams.Kind.TheVariants.{Decision};
 ghost use Rattle.first_fault.specs.Answers.{Passes};
 ghost use Rattle.net_build.specs.Passes.{build_fault};
@@ -167,7 +167,7 @@ pub fn values(draft: &Draft) -> &[Decimal]
 
 /// The table's cells, a utility's to that scale.
 pub fn finish_draft(alloc: Global, draft: Draft, scale: u32) -> Result<Vec<i128>, AllocError>
-    requires few { scale ≤ 30 }
+    requires few { scale ≤ MOST_DECIMALS }
     requires fits { FitsDraft scale draft }
     ensures { IfOk result (λ cells. cells.items ≡ finished scale draft) }
 {

@@ -2,6 +2,7 @@
 
 ghost use Rattle.std.specs.Prelude.{◌≡◌, ◌↔◌, IsTrue, ◌<◌, ◌≤◌, All, map, length, true, None, IfOk};
 ghost use Rattle.std.specs.Option.{SomeIff};
+ghost use Rattle.maid_model.specs.declared.limits.TheConstants.{MOST_DECIMALS};
 ghost use Rattle.maid_model.specs.Diagrams.{greatest_number};
 ghost use Rattle.net_build.specs.Blocks.{is_number};
 ghost use Rattle.first_fault.specs.Passes.{each};
@@ -25,7 +26,7 @@ use whole_num::mul_within;
 pub fn most_decimals(decimals: &[Decimal]) -> u32
     ensures most { All (λ d. d.k ≤ result) decimals.now }
     ensures reached { 0 < result → IsReachedIn decimals.now result }
-    ensures few { result ≤ 30 }
+    ensures few { result ≤ MOST_DECIMALS }
 {
     let mut most = 0;
     for decimal in decimals {
@@ -46,7 +47,7 @@ fn signed(minus: bool, size: u128) -> i128
 // The number times 10^scale, where that lies within the limits.
 fn scaled(number: Decimal, scale: u32) -> Option<i128>
     requires enough { number.k ≤ scale }
-    requires few { scale ≤ 30 }
+    requires few { scale ≤ MOST_DECIMALS }
     ensures { SomeIff result (Fits scale number) (value_at_scale scale number) }
 {
     let tens = 10u128.pow(scale - number.k);
@@ -57,7 +58,7 @@ fn scaled(number: Decimal, scale: u32) -> Option<i128>
 /// Each number, to scale, lies within the limits.
 pub fn all_fit(decimals: &[Decimal], scale: u32) -> bool
     requires enough { All (λ d. d.k ≤ scale) decimals.now }
-    requires few { scale ≤ 30 }
+    requires few { scale ≤ MOST_DECIMALS }
     ensures { IsTrue result ↔ All (Fits scale) decimals.now }
 {
     for decimal in decimals {
@@ -72,7 +73,7 @@ pub fn all_fit(decimals: &[Decimal], scale: u32) -> bool
 fn check_wide(tokens: &[Token], decimals: &[Decimal], scale: u32) -> Result<(), BuildFault>
     requires len { length decimals.now ≡ length tokens.now }
     requires enough { All (λ d. d.k ≤ scale) decimals.now }
-    requires few { scale ≤ 30 }
+    requires few { scale ≤ MOST_DECIMALS }
     ensures { PassesValues scale tokens.now decimals.now result }
 {
     for (place, token) in tokens.iter().enumerate() {
@@ -92,7 +93,7 @@ pub fn scale_of(alloc: Global, text: &[u8], tokens: &[Token]) -> Result<u32, Bui
     ensures rows { Passes build_fault (scaled_pass text.now tokens.now) result }
     ensures scale { IfOk result (λ scale. IsScaleOf text.now tokens.now scale) }
     ensures narrow { IfOk result (λ scale. each (wide_row text.now scale) tokens.now None) }
-    ensures few { IfOk result (λ scale. scale ≤ 30) }
+    ensures few { IfOk result (λ scale. scale ≤ MOST_DECIMALS) }
 {
     let decimals = decimals(alloc, text, tokens)?;
     let scale = most_decimals(&decimals);
@@ -107,7 +108,7 @@ pub fn scaled_cells(
     scale: u32,
 ) -> Result<Vec<i128>, AllocError>
     requires enough { All (λ d. d.k ≤ scale) decimals.now }
-    requires few { scale ≤ 30 }
+    requires few { scale ≤ MOST_DECIMALS }
     requires narrow { All (Fits scale) decimals.now }
     ensures { IfOk result (λ cells. cells.items ≡ map (value_at_scale scale) decimals.now) }
 {

@@ -1,6 +1,7 @@
 //! The tables of a text: the cells of each node, and the scale of the utilities.
 
 ghost use Rattle.std.specs.Prelude.{◌≡◌, ◌↔◌, IsTrue, ◌<◌, ◌≤◌, All, map, length, None, IfOk};
+ghost use Rattle.maid_model.specs.declared.limits.TheConstants.{MOST_DECIMALS};
 ghost use Rattle.net_build.specs.Blocks.{node_blocks};
 ghost use Rattle.net_build.specs.Building.{AreTables};
 ghost use Rattle.net_build.specs.Lists.{cells_of_lists};
@@ -87,7 +88,7 @@ fn read_drafts(
 fn most_of(drafts: &[Draft]) -> u32
     ensures most { All (HasDecimalsAtMost result) drafts.now }
     ensures reached { 0 < result → IsReachedByOne drafts.now result }
-    ensures few { result ≤ 30 }
+    ensures few { result ≤ MOST_DECIMALS }
 {
     let mut most = 0;
     for draft in drafts {
@@ -102,7 +103,7 @@ fn most_of(drafts: &[Draft]) -> u32
 // Each value, to scale, lies within the limits.
 fn drafts_fit(drafts: &[Draft], scale: u32) -> bool
     requires enough { All (HasDecimalsAtMost scale) drafts.now }
-    requires few { scale ≤ 30 }
+    requires few { scale ≤ MOST_DECIMALS }
     ensures { IsTrue result ↔ All (FitsDraft scale) drafts.now }
 {
     for draft in drafts {
@@ -131,7 +132,7 @@ fn utility_scale(
     ensures rows { Passes build_fault (values_pass text.now nodes.now syntax.now) result }
     ensures scale { IfOk result (IsValueScale text.now nodes.now syntax.now) }
     ensures narrow { IfOk result (AreNarrowValues text.now nodes.now syntax.now) }
-    ensures few { IfOk result (λ scale. scale ≤ 30) }
+    ensures few { IfOk result (λ scale. scale ≤ MOST_DECIMALS) }
 {
     let most = most_of(drafts);
     if drafts_fit(drafts, most) {
@@ -143,7 +144,7 @@ fn utility_scale(
 
 // The cells of all nodes, the utilities' to that scale.
 fn finish(alloc: Global, drafts: Vec<Draft>, scale: u32) -> Result<Vec<Vec<i128>>, AllocError>
-    requires few { scale ≤ 30 }
+    requires few { scale ≤ MOST_DECIMALS }
     requires fits { All (FitsDraft scale) drafts.items }
     ensures { IfOk result (λ all. cells_of_lists all.items ≡ map (finished scale) drafts.items) }
 {
@@ -175,7 +176,7 @@ pub fn read_tables(
     ensures rows { Passes build_fault (tables_pass text.now syntax.now) result }
     ensures scale { IfOk result (λ tables. IsUtilityScale text.now syntax.now tables.decimals) }
     ensures cells { IfOk result (λ made. AreTables text.now syntax.now made.decimals made.cells) }
-    ensures few { IfOk result (λ tables. tables.decimals ≤ 30) }
+    ensures few { IfOk result (λ tables. tables.decimals ≤ MOST_DECIMALS) }
     ensures fit { IfOk result (λ tables. TablesFit nodes.now.heads links.now.parents tables.cells) }
 {
     let drafts = read_drafts(alloc, text, nodes, links)?;

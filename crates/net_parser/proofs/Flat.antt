@@ -71,13 +71,6 @@ flat_follows text depth after tokens leaves behind flat = rw flat.1 (passed leav
       let parts = and_parts (is_leaf t.kind) _ all in
       leaf_follows depth after t.kind (lexeme_of text t) (lexemes text (front ++ flat.0 ∷ behind)) refl parts.0 ∙ passed front parts.1
 
--- at least the parenthesis is read
-pub flat_shorter : (text : List ℕ) (tokens leaves behind : List Token) → IsFlat tokens leaves behind → length (lexemes text behind) < length (lexemes text tokens)
-flat_shorter text tokens leaves behind flat = rw flat.1 (fewer leaves) where
-  fewer : (front : List Token) → length (lexemes text behind) < length (lexemes text (front ++ flat.0 ∷ behind))
-  fewer [] = omega arith
-  fewer (t ∷ front) = let rest = fewer front in omega (arith, rest)
-
 -- the list as a value
 pub listed : (depth : ℕ) (vs : ValueTrees) (a b c : List Lexeme) → 0 < depth → Mark kinds.ParenOpen a b → (Values (depth - 1) vs ▹ Mark kinds.ParenClose) b c → Value depth (list vs) a c
 listed depth vs a b c deep opens rest = (deep, (b, opens, rest))

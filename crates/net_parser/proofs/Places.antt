@@ -207,17 +207,6 @@ rest_from_none [] (within []) e = ([], refl)
 rest_from_none [] (within (symbol ∷ after)) e = cc
 rest_from_none (l ∷ ls) place e = place_forth place l ls (turned (step place l) ls _ (λ symbols. rest_from_none ls (within symbols)) e)
 
-turning : (found : Option (List Symbol)) (ls : List Lexeme) (other : Stop × List Lexeme) → ((symbols : List Symbol) → Tail symbols ls → stop (within symbols) ls ≡ None) → Goes found ls → option_map_or (λ symbols. stop (within symbols) ls) found (Some other) ≡ None
-turning None ls other rest h = absurd h
-turning (Some symbols) ls other rest h = rest symbols h
-
--- where a tree is, nothing stops
-pub none_from_rest : (ls : List Lexeme) (place : Place) → Rest place ls → stop place ls ≡ None
-none_from_rest [] start h = refl
-none_from_rest [] (within []) h = refl
-none_from_rest [] (within (symbol ∷ after)) h = absurd (symbol_some symbol h.0 h.1)
-none_from_rest (l ∷ ls) place h = turning (step place l) ls _ (λ symbols. none_from_rest ls (within symbols)) (place_back place l ls h)
-
 -- the tokens lead from one place to another
 abbrev pub Leads : Place → List Lexeme → Place → Type 0
 Leads place [] last = place ≡ last

@@ -17,6 +17,7 @@ use Rattle.maid_model.specs.Graph.{AllDifferent}
 use Rattle.maid_model.specs.Views.{NodeView, DiagramView}
 use Rattle.net_build.specs.Blocks as look
 use Rattle.net_parser.specs.Trees.{BlockTree}
+use Rattle.finite_sums.proofs.Sights.{bytes_same}
 use Rattle.net_print.specs.Printed.{owner_names}
 use Rattle.net_print.proofs.Comments.{IsPrintableBehind, text_of}
 use Rattle.net_print.proofs.Look.{tell, each_node, node_owners_told, node_labels_told}
@@ -27,9 +28,6 @@ use Rattle.net_print.proofs.Written.{At, text_onto}
 
 pub bytes_differ : (xs ys : List ℕ) → xs ≢ ys → bytes_eq xs ys ≡ false
 bytes_differ xs ys h = false_from_ne_true (bytes_eq xs ys) (λ e. h ((bytes_eq-Decides xs ys).0 e))
-
-pub bytes_same : (xs ys : List ℕ) → xs ≡ ys → bytes_eq xs ys ≡ true
-bytes_same xs ys e = (bytes_eq-Decides xs ys).1 e
 
 -- where names differ, each stands at its own place
 pub place_here : (names : List (List ℕ)) → AllPairs (λ name later. name ≢ later) names → (i : ℕ) → i < length names → look.place_among names (get_or names i []) ≡ i

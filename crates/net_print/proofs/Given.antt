@@ -14,8 +14,9 @@ use Rattle.net_lexer.specs.Token.{token_bytes}
 use Rattle.net_lexer.specs.declared.tokens.TokenKind.{TokenKind}
 use Rattle.net_lexer.specs.declared.tokens.TokenKind.TheVariants.{Word}
 use Rattle.net_parser.specs.Trees.{BlockTree}
+use Rattle.finite_sums.proofs.Sights.{bytes_same}
 use Rattle.net_print.proofs.Comments.{IsPrintableBehind, text_of, place_of}
-use Rattle.net_print.proofs.Agents.{place_here, bytes_differ, bytes_same}
+use Rattle.net_print.proofs.Agents.{place_here, bytes_differ}
 use Rattle.net_print.proofs.Look.{tell, each_node, node_name_told, names_told, potentials_are, at_potentials, node_lines}
 use Rattle.net_print.proofs.Spelling.{trees_at}
 use Rattle.net_print.proofs.Texts.{numbers_below}

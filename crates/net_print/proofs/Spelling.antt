@@ -23,10 +23,6 @@ pub lexemes_onto_none : (from : ℕ) (ws : List Written) → lexemes_onto from w
 lexemes_onto_none from [] = refl
 lexemes_onto_none from (w ∷ ws) = ap (λ ls. record { token = token_at from w; bytes = w.bytes } ∷ ls) (lexemes_onto_none (behind from w) ws)
 
-pub end_at-append : (from : ℕ) (xs ys : List Written) → end_at from (xs ++ ys) ≡ end_at (end_at from xs) ys
-end_at-append from [] ys = refl
-end_at-append from (w ∷ ws) ys = end_at-append (behind from w) ws ys
-
 -- the rule leads from these to what is behind them
 abbrev pub Spelled : Rule → ℕ → List Written → Type 0
 Spelled R from ws = (rest : List Lexeme) → R (lexemes_onto from ws rest) rest

@@ -2,6 +2,7 @@
 
 ghost use Rattle.std.specs.Prelude.{◌≡◌, ◌≢◌, ◌<◌, ◌≤◌, ◌+◌, ◌/◌, ◌%◌, ◌^◌, length, map, replicate, unsigned_abs};
 ghost use Rattle.std.specs.Int.{IsGcd};
+ghost use Rattle.maid_model.specs.declared.limits.TheConstants.{MOST_DECIMALS};
 ghost use Rattle.net_build.specs.Plain.{row_divisor};
 ghost use Rattle.net_print.specs.Printed.{padded, sign_text, size_text, value_text};
 ghost use Rattle.line_pieces.specs.Pushed.{PushAppends};
@@ -50,7 +51,7 @@ fn without_noughts(mut size: u128, mut decimals: u32) -> (u128, u32)
 #[tactic(auto, using(std::proofs::Common::append_assoc))]
 fn push_decimal(out: &mut Vec<u8>, size: u128, decimals: u32) -> Result<(), AllocError>
     requires last { 0 < decimals → size % 10 ≢ 0 }
-    requires few { decimals ≤ 30 }
+    requires few { decimals ≤ MOST_DECIMALS }
     ensures { PushAppends out.old out.new result (size_text decimals size) }
 {
     if decimals == 0 {
@@ -74,7 +75,7 @@ fn push_sign(out: &mut Vec<u8>, number: i128) -> Result<(), AllocError>
 /// Appends the value of a utility's cell: the cell over ten to the power of `decimals`.
 #[tactic(auto, using(std::proofs::Common::append_assoc))]
 pub fn push_value(out: &mut Vec<u8>, cell: i128, decimals: u32) -> Result<(), AllocError>
-    requires { decimals ≤ 30 }
+    requires { decimals ≤ MOST_DECIMALS }
     ensures { PushAppends out.old out.new result (value_text decimals cell) }
 {
     push_sign(out, cell)?;

@@ -1,6 +1,7 @@
 //! The lines of potentials.
 
 ghost use Rattle.std.specs.Prelude.{◌≡◌, ◌<◌, ◌≤◌, length};
+ghost use Rattle.maid_model.specs.declared.limits.TheConstants.{MOST_DECIMALS};
 ghost use Rattle.maid_model.specs.declared.diagrams.Kind.TheVariants.{Chance};
 ghost use Rattle.maid_model.specs.Names.{NamesFit};
 ghost use Rattle.maid_model.specs.Nodes.{node_at};
@@ -51,7 +52,7 @@ fn push_rows(out: &mut Vec<u8>, diagram: &Diagram, node: usize) -> Result<(), Al
 
 // Appends the values of a utility.
 fn push_values(out: &mut Vec<u8>, cells: &[i128], decimals: u32) -> Result<(), AllocError>
-    requires { decimals ≤ 30 }
+    requires { decimals ≤ MOST_DECIMALS }
     ensures { PushAppends out.old out.new result (parted (value_text decimals) cells.now) }
 {
     for (place, cell) in cells.iter().enumerate() {

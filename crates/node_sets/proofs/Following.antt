@@ -65,10 +65,6 @@ module _ (parents : ℕ → List ℕ) where
     | inr n ↦ h x (f x q n)
   ]
 
-  -- a sweep that changes nothing leaves a closed set
-  pub closed_after : (way : Way) (Into : ℕ → Type 0) (xs ys : NodeSet) (c : Bool) → IsFollowed (Step parents way) (ClosedInto parents way Into) xs ys c → c ≡ false → ClosedInto parents way Into ys
-  closed_after way Into xs ys c h e = let s = h.steady e in subst (λ x. ClosedInto parents way Into x) (sym s.0) s.1
-
   module _ (size : ℕ) (none_past : (v : ℕ) → size ≤ v → parents v ≡ []) where
     -- only nodes have parents
     head_within : (p v : ℕ) → ParentArc parents p v → v < size

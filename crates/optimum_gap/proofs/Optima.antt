@@ -1,7 +1,7 @@
 -- Optima as fractions of what counts in the agent's scope: so two optima have a common denominator where the one scope covers the other.
 use Rattle.std.proofs.Common.{◌≡◌, ◌∙◌, ℕ, ◌*◌, ◌/◌, ◌<◌, ◌≤◌, ◌^◌, max, sym, ap, subst, arith, ℤ, pos, ◌*ℤ◌, nat_abs, le_trans, inl, inr}
 use Rattle.std.proofs.lemmas.Int.{unsigned_abs-mul}
-use Rattle.std.proofs.Math.Nat.{div-mul_cancel, one-le-pow, mul-le-mul_left, mul-le-mul_right, mul-pos, pos_of_dvd_of_pos}
+use Rattle.std.proofs.Math.Nat.{div-mul_cancel, mul-le-mul_left, mul-le-mul_right, mul-pos, pos_of_dvd_of_pos}
 use Rattle.std.specs.Int.{◌∣◌}
 use Rattle.std.specs.declared.alloc.AllocError.{AllocError}
 use Rattle.std.specs.Prelude.{Result, Ok, Err, IfOk}
@@ -27,6 +27,7 @@ use Rattle.part_laws.proofs.PartChoices.{worths_law}
 use Rattle.part_laws.proofs.ScopeBounds.{agents_law}
 use Rattle.part_laws.proofs.ScopeLaws.{agents_scopes_law}
 use Rattle.scope_sums.proofs.Agents.{agents_mass_law}
+use Rattle.scope_sums.proofs.Shares.{scale_some}
 use Rattle.optimum_gap.specs.Baselines.{CoversScope, HaveNearScopes, IsBaseline}
 use Rattle.optimum_gap.specs.declared.found.Found.{Found}
 use Rattle.optimum_gap.specs.Found.{Reason, TellsReason, found_of, refused_by}
@@ -75,9 +76,6 @@ widened s n few many scale low high most some scaled d l b f small =
 
     within : nat_abs (n *ℤ pos (many / few)) ≤ most
     within = omega (arith, b, unsigned_abs-mul n (pos (many / few)), bounded (nat_abs n) (many / few) few (max scale low) (max scale high) many small (div-mul_cancel few d) grows)
-
-scale_some : (decimals : ℕ) → 0 < 10 ^ decimals
-scale_some decimals = one-le-pow decimals 10 (omega arith)
 
 -- the wider scope's product and the scale are a common denominator
 pub share_law : (wide narrow : DiagramView) (agent : ℕ) (r s : Ratio) → IsGraph wide.nodes → HasChanceTables wide.nodes → IsGraph narrow.nodes → HasChanceTables narrow.nodes

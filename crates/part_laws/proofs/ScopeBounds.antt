@@ -25,6 +25,7 @@ use Rattle.finite_sums.proofs.Sums.{sum_over_mul, with_in}
 use Rattle.finite_sums.proofs.Totals.{sum_over_totals}
 use Rattle.maid_model.specs.Parts.{leads_to, with_ancestors, place_in, part_of, rules_in}
 use Rattle.maid_model.specs.Scopes.{goals_of, utilities_for, scope_of, scope_for, scope_product, scope_product_for, chance_factor_by, greatest_of, scope_bound, scope_bound_for}
+use Rattle.maid_model.proofs.Adding.{products_not_negative}
 use Rattle.part_laws.specs.ScopeLaws.{SumsOfScopesFit, SumsOfAgentsScopesFit}
 use Rattle.maid_laws.proofs.Basis.{have_totals, among_filter_in}
 use Rattle.maid_laws.proofs.Booleans.{bool_same, eqb_yes, eqb_no}
@@ -40,7 +41,7 @@ use Rattle.maid_laws.proofs.Proportions.{kind_of_utility}
 use Rattle.maid_laws.proofs.Rearranged.{number, numbered}
 use Rattle.maid_laws.proofs.Tied.{decision_of, tables_of}
 use Rattle.maid_laws.proofs.Profiles.{sum_ones}
-use Rattle.maid_laws.proofs.Signs.{table_not_negative, products_not_negative, pos_product}
+use Rattle.maid_laws.proofs.Signs.{table_not_negative, pos_product}
 use Rattle.maid_laws.proofs.Summed.{later_all}
 use Rattle.maid_laws.proofs.TotalLaws.{has_total, weights_law}
 

@@ -1,14 +1,13 @@
 -- The choice of a row, improved: the walk over the states, row by row, and gains that compare alike.
 use Rattle.std.proofs.Common.{◌≡◌, ◌∙◌, ◌⊎◌, ◌↔◌, ℕ, ◌+◌, ◌<◌, ◌≤◌, List, [], ◌∷◌, ◌++◌, All, None, length, length-append, slice_index_or, refl, sym, ap, subst, inl, inr, arith, ℤ, ◌≤ℤ◌, ◌<ℤ◌}
 use Rattle.std.proofs.lemmas.List.{get_or_append_left}
-use Rattle.std.proofs.lemmas.List.Elements.{All-nil, All-push}
+use Rattle.std.proofs.lemmas.List.Elements.{All-push}
 use Rattle.std.proofs.Math.Decide.{ℕ_discrete}
 use Rattle.std.proofs.lemmas.Int.{ints}
 use Rattle.maid_model.specs.declared.answers.Row.{Row}
 use Rattle.maid_model.specs.Answers.{no_row}
 use Rattle.reach_laws.specs.Updates.{IsImproved}
 use Rattle.reach_laws.proofs.Steps.{compare}
-use Rattle.policy_update.specs.Steps.{AreImproved}
 
 -- what is not at most is greater, and what is greater is not at most
 greater : (x y : ℤ) → ((y ≤ℤ x) → ⊥) → x <ℤ y
@@ -59,12 +58,6 @@ pub record IsBestSoFar (gain : ℕ → ℤ) (choice best k : ℕ) : Type 0 where
   pub greatest : (s : ℕ) → s < k → gain s ≤ℤ gain best
   pub no_less : gain choice ≤ℤ gain best
 
-pub best_start : (gain : ℕ → ℤ) (choice : ℕ) → IsBestSoFar gain choice choice 0
-best_start gain choice = record { kept = inl refl; greatest = λ s l. absurd (omega arith); no_less = same (gain choice) }
-  where
-    same : (a : ℤ) → a ≤ℤ a
-    same a = omega (arith, ints)
-
 at_most : (k s : ℕ) → s < k + 1 → (s ≡ k → ⊥) → s < k
 at_most k s l n = omega (arith, l)
 
@@ -95,25 +88,6 @@ best_same gain choice best k h few = record { kept = h.kept; greatest = λ s l. 
     go s l (yes e) = subst (λ z. gain z ≤ℤ gain best) (sym e) few
     go s l (no n) = h.greatest s (at_most k s l n)
 
-pub best_end : (gain : ℕ → ℤ) (choice best k n : ℕ) → n ≤ k → choice < n → best < n → IsBestSoFar gain choice best k → IsImproved gain n choice best
-best_end gain choice best k n all was within h = record {
-  was = was;
-  within = within;
-  keeps = λ most. stays most h.kept;
-  takes = λ s l less. record { within = within; greatest = λ t m. h.greatest t (far t m); first = first s l less h.kept };
-}
-  where
-    far : (t : ℕ) → t < n → t < k
-    far t m = omega arith
-
-    stays : ((s : ℕ) → s < n → gain s ≤ℤ gain choice) → (best ≡ choice) ⊎ ((gain choice <ℤ gain best) × ((s : ℕ) → s < best → gain s <ℤ gain best)) → best ≡ choice
-    stays most (inl e) = e
-    stays most (inr (more, f)) = absurd (not_most (gain choice) (gain best) more (most best within))
-
-    first : (s : ℕ) → s < n → gain choice <ℤ gain s → (best ≡ choice) ⊎ ((gain choice <ℤ gain best) × ((s : ℕ) → s < best → gain s <ℤ gain best)) → (t : ℕ) → t < best → gain t <ℤ gain best
-    first s l less (inl e) = absurd (not_most (gain choice) (gain s) less (subst (λ z. gain s ≤ℤ gain z) e (h.greatest s (far s l))))
-    first s l less (inr (more, f)) = f
-
 -- ---- row by row
 -- the first rows, each improved by its own gains, and without worths
 pub record AreImprovedTo (gain : ℕ → ℕ → ℤ) (states : ℕ) (before : List Row) (n : ℕ) (after : List Row) : Type 0 where
@@ -140,9 +114,3 @@ rows_more gain states before n after r h here none = record {
     go row l (yes e) = subst (λ k. IsImproved (λ s. gain s k) states (slice_index_or before k no_row).choice (slice_index_or (after ++ r ∷ []) k no_row).choice) (sym e)
         (subst (λ x. IsImproved (λ s. gain s n) states (slice_index_or before n no_row).choice x.choice) (sym last) here)
     go row l (no m) = subst (λ x. IsImproved (λ s. gain s row) states (slice_index_or before row no_row).choice x.choice) (sym (get_or_append_left after (r ∷ []) no_row row (subst (λ k. row < k) (sym h.count) (at_most n row l m)))) (h.each row (at_most n row l m))
-
-pub rows_end : (gain : ℕ → ℕ → ℤ) (states : ℕ) (before : List Row) (n : ℕ) (after : List Row) → n ≡ length before → AreImprovedTo gain states before n after → AreImproved gain states before after
-rows_end gain states before n after e h = record { count = h.count ∙ e; each = λ row l. h.each row (subst (λ k. row < k) (sym e) l); worthless = h.worthless }
-
-pub rows_start : (gain : ℕ → ℕ → ℤ) (states : ℕ) (before : List Row) → AreImprovedTo gain states before 0 []
-rows_start gain states before = record { count = refl; each = λ row l. absurd (omega arith); worthless = All-nil (λ (r : Row). r.worth ≡ None) }

@@ -5,7 +5,7 @@ use Rattle.first_fault.specs.Passes.{◌▸◌}
 use Rattle.first_fault.specs.Properties.{IsExclusive, HasOneFault}
 use Rattle.first_fault.proofs.Kept.{IsOne, rule_one, then_one}
 use Rattle.maid_model.specs.declared.answers.Ratio.{Ratio}
-use Rattle.maid_model.specs.Answers.{IsExpectedUtility, pure_profile, rows_at}
+use Rattle.maid_model.specs.Answers.{AreChoices, IsExpectedUtility, pure_profile, rows_at}
 use Rattle.maid_model.specs.Diagrams.{IsDiagram}
 use Rattle.maid_model.specs.Gains.{gain_of, mass}
 use Rattle.maid_model.specs.Nodes.{decisions_of}
@@ -25,7 +25,6 @@ use Rattle.weight_scale.specs.declared.weight_bound.BoundPlace.TheVariants.{With
 use Rattle.weight_scale.specs.Laws.{OneBoundPlace}
 use Rattle.policy_update.specs.Faults.{AllRaise, HasTwoOwners, NotOneAgent, RoundsSpent, TooLarge, WeightBound, update_bound_pass, owners_pass, rounds_pass, update_size_pass}
 use Rattle.policy_update.specs.Laws.{OneRefusal, OneUpdate}
-use Rattle.policy_update.specs.Updated.{AreChoices}
 use Rattle.policy_update.proofs.Owners.{decision_at, some_owner}
 use Rattle.policy_update.proofs.Plans.{rows_own, apart, decided_get, same_choices_at}
 use Rattle.policy_update.proofs.Rising.{some_decision}

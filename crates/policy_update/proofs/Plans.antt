@@ -5,7 +5,7 @@ use Rattle.std.proofs.lemmas.List.Elements.{All-cons, All-map, All-nil, All-repl
 use Rattle.std.proofs.Math.Decide.{ℕ_discrete}
 use Rattle.finite_sums.specs.Members.{Among}
 use Rattle.maid_model.specs.declared.answers.Row.{Row}
-use Rattle.maid_model.specs.Answers.{FitsAnswer, FitsAnswers, IsReduced, no_row, pure_profile, rows_at}
+use Rattle.maid_model.specs.Answers.{AreChoices, FitsAnswer, FitsAnswers, HasNoWorths, IsReduced, no_row, pure_profile, rows_at}
 use Rattle.maid_model.specs.Gains.{gain_at}
 use Rattle.maid_model.specs.Graph.{IsGraph}
 use Rattle.maid_model.specs.Nodes.{IsDecision, decisions_of, rows_of, states_of}
@@ -22,7 +22,6 @@ use Rattle.reach_laws.specs.Equilibria.{ChoicesOfAnswers}
 use Rattle.reach_laws.specs.Updates.{IsImproved, IsStep, start_profile}
 use Rattle.reach_laws.proofs.Listed.{below_of, same_choices}
 use Rattle.policy_update.specs.Steps.{AreImproved, AreSameChoices, IsProfileOf, first_choices}
-use Rattle.policy_update.specs.Updated.{AreChoices, TellsNoWorth}
 
 -- ---- the rows found at a decision
 abbrev pub decided_by : List AnswerView → List ℕ
@@ -84,11 +83,11 @@ module _ (nodes : List NodeView) (answers : List AnswerView) (h : AreChoices nod
   pub place_decides : (i : ℕ) (e : AnswerView) → i < length answers → IsDecision nodes (get_or answers i e).decision
   place_decides i e l = (h.fits i e l).decision
 
-  pub put_choices : (i : ℕ) (a : AnswerView) → i < length answers → a.decision ≡ (get_or answers i a).decision → FitsAnswer nodes a → TellsNoWorth a → AreChoices nodes (set answers i a)
+  pub put_choices : (i : ℕ) (a : AnswerView) → i < length answers → a.decision ≡ (get_or answers i a).decision → FitsAnswer nodes a → HasNoWorths a → AreChoices nodes (set answers i a)
   put_choices i a l e fits none = record {
     follow = decided_put answers i a l e ∙ h.follow;
     fits = All-set (FitsAnswer nodes) answers i a fits h.fits;
-    worthless = All-set TellsNoWorth answers i a none h.worthless;
+    worthless = All-set HasNoWorths answers i a none h.worthless;
   }
 
   pub put_own : (i : ℕ) (a : AnswerView) → i < length answers → a.decision ≡ (get_or answers i a).decision → AreChoices nodes (set answers i a) → rows_at (set answers i a) a.decision ≡ a.rows
@@ -140,7 +139,7 @@ module _ (nodes : List NodeView) (law : ChoicesOfAnswers) where
       (sym (weights_there nodes answers d k) ∙ ap (λ r. weights_of r d) (sym h.rules ∙ e ∙ j.rules) ∙ weights_there nodes others d k))
 
   -- the plan with another rule at one decision
-  pub put_plan : (answers : List AnswerView) (p q : List RuleView) → IsProfileOf nodes answers p → (i : ℕ) (a : AnswerView) → i < length answers → a.decision ≡ (get_or answers i a).decision → FitsAnswer nodes a → TellsNoWorth a
+  pub put_plan : (answers : List AnswerView) (p q : List RuleView) → IsProfileOf nodes answers p → (i : ℕ) (a : AnswerView) → i < length answers → a.decision ≡ (get_or answers i a).decision → FitsAnswer nodes a → HasNoWorths a
       → IsProfile nodes q → Replaces p q (pure_rule nodes a.decision (map (λ (r : Row). r.choice) a.rows)) → IsProfileOf nodes (set answers i a) q
   put_plan answers p q h i a l e fits none is put = record {
     choices = new;
@@ -242,7 +241,7 @@ module _ (nodes : List NodeView) (law : ChoicesOfAnswers) (answers : List Answer
   }
 
   rows_same : AreSameChoices after a.rows → after ≡ a.rows
-  rows_same same = same_listed after a.rows h.improved.count h.improved.worthless (subst (λ (x : AnswerView). TellsNoWorth x) (sym h.here) (h.plan.choices.worthless i a h.within)) same
+  rows_same same = same_listed after a.rows h.improved.count h.improved.worthless (subst (λ (x : AnswerView). HasNoWorths x) (sym h.here) (h.plan.choices.worthless i a h.within)) same
 
   -- rows of the decision in two plans that stand for those before and after
   step_between : (others : List AnswerView) (q : List RuleView) → IsProfileOf nodes others q → ((v : ℕ) → IsDecision nodes v → v ≢ a.decision → SameRule q p v) → rows_at others a.decision ≡ after → IsStep nodes p (get_or (decisions_of nodes) i 0) q
@@ -299,7 +298,7 @@ module _ (nodes : List NodeView) (g : IsGraph nodes) where
       choices = All-replicate (λ (r : Row). r.choice < states_of nodes v) (rows_of nodes v) no_row (g.has_state v);
       worths = All-replicate (λ (r : Row). IfSome r.worth IsReduced) (rows_of nodes v) no_row tt;
     });
-    worthless = all_first nodes TellsNoWorth (decisions_of nodes) (λ v m. All-replicate (λ (r : Row). r.worth ≡ None) (rows_of nodes v) no_row refl);
+    worthless = all_first nodes HasNoWorths (decisions_of nodes) (λ v m. All-replicate (λ (r : Row). r.worth ≡ None) (rows_of nodes v) no_row refl);
   }
 
   first_rows : (v : ℕ) → Among v (decisions_of nodes) → rows_at (first_choices nodes) v ≡ replicate (rows_of nodes v) no_row

@@ -3,7 +3,7 @@ use Rattle.std.specs.Global.{Vec}
 use Rattle.std.specs.Prelude.{◌≡◌, ◌≢◌, ◌<◌, ◌≤◌, ℕ, ℤ, Bool, true, false, List, All, Option, None, Some, length, map, pos, replicate, slice_index_or}
 use Rattle.maid_model.specs.declared.answers.Row.{Row}
 use Rattle.maid_model.specs.declared.limits.TheConstants.{MOST_PLAN_CELLS}
-use Rattle.maid_model.specs.Answers.{no_row, pure_profile}
+use Rattle.maid_model.specs.Answers.{AreChoices, no_row, pure_profile}
 use Rattle.maid_model.specs.Gains.{gain_at, gain_in}
 use Rattle.maid_model.specs.Nodes.{decisions_of, rows_of, states_of}
 use Rattle.maid_model.specs.Views.{NodeView, RuleView, AnswerView}
@@ -13,7 +13,6 @@ use Rattle.rule_solver.specs.Rooms.{AreReady, HasRoomForRun}
 use Rattle.size_precheck.specs.declared.decisions.DecisionPlans.{DecisionPlans}
 use Rattle.size_precheck.specs.declared.runs.RunPlans.{RunPlans}
 use Rattle.size_precheck.specs.Decisions.{ArePlans}
-use Rattle.policy_update.specs.Updated.{AreChoices}
 
 -- what a state gains in a row
 abbrev pub state_gain : List ℤ → ℕ → ℤ

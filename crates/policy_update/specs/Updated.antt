@@ -1,10 +1,9 @@
 -- The result of updating: its choices, how many rounds raised, and what it is worth.
-use Rattle.std.specs.Prelude.{◌≡◌, ◌≢◌, ℕ, suc, List, All, map, None, pos, ◌*ℤ◌, ◌<ℤ◌}
+use Rattle.std.specs.Prelude.{◌≢◌, ℕ, suc, List, pos, ◌*ℤ◌, ◌<ℤ◌}
 use Rattle.maid_model.specs.declared.answers.Ratio.{Ratio}
-use Rattle.maid_model.specs.declared.answers.Row.{Row}
-use Rattle.maid_model.specs.Answers.{FitsAnswer, pure_profile}
+use Rattle.maid_model.specs.Answers.{AreChoices, pure_profile}
 use Rattle.maid_model.specs.Gains.{gain_of, mass}
-use Rattle.maid_model.specs.Nodes.{IsDecision, agent_of, decisions_of}
+use Rattle.maid_model.specs.Nodes.{IsDecision, agent_of}
 use Rattle.maid_model.specs.Profiles.{IsProfile, SameRule}
 use Rattle.maid_model.specs.Subgames.{IsNoBetter}
 use Rattle.maid_model.specs.Views.{NodeView, DiagramView, RuleView, AnswerView}
@@ -16,16 +15,6 @@ pub record UpdatedView : Type 0 where
   pub rounds : ℕ
   pub answers : List AnswerView
   pub gains : List Ratio
-
--- the rows tell no worth
-abbrev pub TellsNoWorth : AnswerView → Type 0
-TellsNoWorth answer = All (λ (r : Row). r.worth ≡ None) answer.rows
-
--- answers in text order, with a choice in range for each choice of the parents' states, and without worths
-pub record AreChoices (nodes : List NodeView) (answers : List AnswerView) : Type 0 where
-  pub follow : map (λ a. a.decision) answers ≡ decisions_of nodes
-  pub fits : All (FitsAnswer nodes) answers
-  pub worthless : All TellsNoWorth answers
 
 -- the choices before the first round that does not raise, how many rounds came before, and what the choices are worth
 -- to each agent

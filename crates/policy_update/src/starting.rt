@@ -1,4 +1,4 @@
-//! The decisions, and the first states of all.
+//! The first states of all decisions.
 
 ghost use Rattle.std.specs.Prelude.{◌≡◌, IfOk};
 ghost use Rattle.maid_model.specs.Nodes.{decisions_of};
@@ -6,19 +6,6 @@ ghost use Rattle.policy_update.specs.Steps.{first_choices};
 
 use maid_model::{Answer, Diagram, Row};
 use std::alloc::{AllocError, Global};
-
-/// The decisions, in text order.
-pub(crate) fn list_decisions(alloc: Global, diagram: &Diagram) -> Result<Vec<usize>, AllocError>
-    ensures { IfOk result (λ decisions. decisions.items ≡ decisions_of diagram.now.nodes) }
-{
-    let mut decisions = Vec::new(alloc);
-    for v in 0..diagram.count() {
-        if diagram.is_decision(v) {
-            decisions.push(v)?;
-        }
-    }
-    Ok(decisions)
-}
 
 /// The first state in each row of each decision, without worths.
 pub(crate) fn first_choices(

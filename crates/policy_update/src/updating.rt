@@ -12,7 +12,7 @@ ghost use Rattle.policy_update.specs.Updated.{IsLocallyOptimal, IsUpdateOf, Roun
 use crate::UpdateFault;
 use crate::limits::{keep_bound, keep_one_owner, keep_sizes};
 use crate::rounds::settle;
-use crate::starting::{first_choices, list_decisions};
+use crate::starting::first_choices;
 use maid_model::{Answer, Diagram, Profile, Ratio};
 use reach_laws::{local_optimum, pure_profiles_listed, round_raises};
 use rule_solver::{Workspaces, expected_by};
@@ -125,7 +125,7 @@ pub fn update(alloc: Global, diagram: &Diagram, rounds: u64) -> Result<Updated, 
     round_raises();
     local_optimum();
     let _count = diagram.count();
-    let decisions = list_decisions(alloc, diagram)?;
+    let decisions = diagram.decisions(alloc)?;
     keep_one_owner(diagram, &decisions)?;
     keep_bound(diagram)?;
     let run = keep_sizes(alloc, diagram, &decisions)?;

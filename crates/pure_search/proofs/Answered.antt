@@ -2,7 +2,7 @@
 use Rattle.std.proofs.Common.{◌≡◌, ◌≢◌, ◌∙◌, ℕ, zero, suc, ◌<◌, cond, eqb, List, [], ◌∷◌, map, take, drop, refl, sym, ap, subst, arith, All, inl, inr, None, IfSome}
 use Rattle.std.proofs.lemmas.List.{length-map}
 use Rattle.maid_model.specs.declared.answers.Row.{Row}
-use Rattle.maid_model.specs.Answers.{FitsAnswer, pure_profile, rows_at, IsReduced}
+use Rattle.maid_model.specs.Answers.{FitsAnswer, HasNoWorths, pure_profile, rows_at, IsReduced}
 use Rattle.maid_model.specs.Nodes.{IsDecision, decisions_of, rows_of, states_of}
 use Rattle.maid_model.specs.Profiles.{pure_rule}
 use Rattle.maid_model.specs.Views.{NodeView, AnswerView, RuleView}
@@ -15,7 +15,6 @@ use Rattle.maid_laws.proofs.Members.{not_among}
 use Rattle.maid_laws.proofs.SameProfile.{decisions_apart}
 use Rattle.reach_laws.specs.Equilibria.{choice_counts, profile_of, rules_of}
 use Rattle.reach_laws.proofs.Listed.{Below, Fits, fits_of, fits_take, pure_of}
-use Rattle.pure_search.specs.Found.{HasNoWorths}
 use Rattle.pure_search.specs.Games.{answers_of, counts_for, unpriced}
 
 pub choices_back : (cs : List ℕ) → map (λ (r : Row). r.choice) (map unpriced cs) ≡ cs

@@ -1,6 +1,5 @@
 -- Gains in the part of an agent's scope compare as those in the whole do.
-use Rattle.std.proofs.Common.{◌≡◌, ◌↔◌, ◌∙◌, ℕ, ◌*◌, List, [], ◌∷◌, refl, sym, ap, pos, ◌*ℤ◌, ◌≤ℤ◌}
-use Rattle.finite_sums.specs.Sums.{nat_product_over}
+use Rattle.std.proofs.Common.{◌≡◌, ◌↔◌, ◌∙◌, ℕ, ◌*◌, List, refl, sym, ap, pos, ◌*ℤ◌, ◌≤ℤ◌}
 use Rattle.maid_model.specs.declared.diagrams.Kind.{Kind}
 use Rattle.maid_model.specs.declared.diagrams.Kind.TheVariants.{Chance, Decision, Utility}
 use Rattle.maid_model.specs.Gains.{gain_of}
@@ -13,16 +12,13 @@ use Rattle.maid_model.specs.Views.{NodeView, RuleView}
 use Rattle.maid_model.specs.Worlds.{IsWorld}
 use Rattle.maid_laws.specs.Optimum.{IsPure}
 use Rattle.maid_laws.proofs.Tied.{decision_of}
+use Rattle.maid_laws.proofs.Alike.{nat_product_cong}
 use Rattle.part_laws.proofs.PartChoices.{order_same}
 use Rattle.part_laws.proofs.PartLaws.{agents_gains_law, positive_law}
 use Rattle.part_laws.proofs.ScopeLaws.{agents_scopes_law}
 use Rattle.reach_laws.specs.Equilibria.{profile_of}
 use Rattle.pure_search.specs.Games.{counts_for, part_gain}
 use Rattle.pure_search.proofs.Answered.{pure_choices}
-
-same_product : (f g : ℕ → ℕ) (vs : List ℕ) → ((v : ℕ) → f v ≡ g v) → nat_product_over f vs ≡ nat_product_over g vs
-same_product f g [] h = refl
-same_product f g (v ∷ vs) h = λ i. h v i * same_product f g vs h i
 
 -- pure rules have the same totals
 same_total : (nodes : List NodeView) (p q : List RuleView) → IsPure nodes p → IsPure nodes q → (v : ℕ) → weight_total nodes p v ≡ weight_total nodes q v
@@ -34,7 +30,7 @@ same_total nodes p q hp hq v = by_kind (node_at nodes v).kind refl
     by_kind Utility e = refl
 
 same_left_out : (nodes : List NodeView) (kept : List ℕ) (p q : List RuleView) → IsPure nodes p → IsPure nodes q → mass_left_out nodes p kept ≡ mass_left_out nodes q kept
-same_left_out nodes kept p q hp hq = same_product (weight_total nodes p) (weight_total nodes q) (left_out nodes kept) (same_total nodes p q hp hq)
+same_left_out nodes kept p q hp hq = nat_product_cong (weight_total nodes p) (weight_total nodes q) (left_out nodes kept) (same_total nodes p q hp hq)
 
 pub compares : (nodes : List NodeView) (agent : ℕ) (xs ys : List ℕ) → IsGraph nodes → HasChanceTables nodes → IsWorld (counts_for nodes) xs → IsWorld (counts_for nodes) ys
     → (gain_of nodes (profile_of nodes xs) agent ≤ℤ gain_of nodes (profile_of nodes ys) agent) ↔ (part_gain nodes agent xs ≤ℤ part_gain nodes agent ys)

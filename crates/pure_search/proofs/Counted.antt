@@ -1,22 +1,12 @@
 -- How many lists of choices there are.
-use Rattle.std.proofs.Common.{◌≡◌, ◌∙◌, ℕ, zero, suc, ◌+◌, ◌*◌, ◌<◌, ◌≤◌, List, [], ◌∷◌, ◌++◌, map, flat_map, length, take, slice_index, refl, sym, ap, arith, min, length-append, add-one}
+use Rattle.std.proofs.Common.{◌≡◌, ◌∙◌, ℕ, zero, suc, ◌+◌, ◌*◌, ◌<◌, ◌≤◌, List, [], ◌∷◌, ◌++◌, map, length, take, slice_index, refl, sym, ap, arith, min, add-one}
 use Rattle.std.proofs.Math.Nat.{mul-le-mul_right}
 use Rattle.std.proofs.Math.Decide.{dec_lt}
 use Rattle.std.proofs.lemmas.List.{length-map}
-use Rattle.std.specs.List.{range_with_len}
 use Rattle.maid_model.specs.declared.limits.TheConstants.{COUNT_END}
 use Rattle.maid_model.specs.Bounds.{stopped}
 use Rattle.maid_model.specs.Worlds.{worlds}
-
-range_times : (f : ℕ → List (List ℕ)) (n : ℕ) → ((s : ℕ) → length (f s) ≡ n) → (k c : ℕ) → length (flat_map f (range_with_len k c)) ≡ c * n
-range_times f n h k zero = none n
-  where
-    none : (n : ℕ) → 0 ≡ 0 * n
-    none n = omega arith
-range_times f n h k (suc c) = length-append (f k) (flat_map f (range_with_len (k + 1) c)) ∙ (λ i. h k i + range_times f n h (k + 1) c i) ∙ more n c
-  where
-    more : (n k : ℕ) → n + k * n ≡ suc k * n
-    more n k = omega arith
+use Rattle.reach_laws.proofs.Listed.{range_times}
 
 -- one place more in front
 pub worlds_step : (c : ℕ) (cs : List ℕ) → length (worlds (c ∷ cs)) ≡ c * length (worlds cs)
@@ -73,10 +63,3 @@ count_next cs i count l e =
 
 pub count_more : (cs : List ℕ) (i count : ℕ) → i < length cs → count ≡ stopped (length (worlds (take i cs))) → min COUNT_END (count * slice_index cs i) ≡ stopped (length (worlds (take (i + 1) cs)))
 count_more cs i count l e = count_next cs i count l e ∙ ap (λ k. stopped (length (worlds (take k cs)))) (sym (add-one i))
-
-pub stopped_small : (n : ℕ) → stopped n ≤ COUNT_END
-stopped_small n = omega arith
-
--- where a stopped count keeps a limit below the end, so does the count, which is the same
-pub below_end : (n most : ℕ) → most < COUNT_END → stopped n ≤ most → n ≡ stopped n
-below_end n most h k = omega arith

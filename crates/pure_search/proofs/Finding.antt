@@ -3,7 +3,7 @@ use Rattle.std.proofs.Common.{◌≡◌, ◌≢◌, ◌∙◌, ℕ, ◌+◌, ◌
 use Rattle.std.proofs.lemmas.List.{length-map, get_or-map, get_or_default, get_or_append_left}
 use Rattle.std.proofs.Math.Decide.{ℕ_discrete}
 use Rattle.maid_model.specs.declared.answers.Ratio.{Ratio}
-use Rattle.maid_model.specs.Answers.{FitsAnswer, IsGains, pure_profile}
+use Rattle.maid_model.specs.Answers.{FitsAnswer, HasNoWorths, IsGains, pure_profile}
 use Rattle.maid_model.specs.Views.{AnswerView, DiagramView, NodeView, RuleView}
 use Rattle.maid_model.specs.Worlds.{IsWorld}
 use Rattle.maid_model.proofs.Listing.{lists_worlds}
@@ -13,7 +13,7 @@ use Rattle.reach_laws.proofs.Listed.{choices_of, fits_of, world_from}
 use Rattle.std.specs.Prelude.{Contains}
 use Rattle.maid_laws.specs.Optimum.{IsPure}
 use Rattle.maid_model.specs.Nodes.{decisions_of}
-use Rattle.pure_search.specs.Found.{HasNoWorths, IsPureFound, PureView, found_profile}
+use Rattle.pure_search.specs.Found.{IsPureFound, PureView, found_profile}
 use Rattle.pure_search.specs.Games.{IsFirstMark, MarksStable, answers_of, choice_lists, choices_at, counts_for}
 use Rattle.pure_search.proofs.Answered.{answered_profile, answers_fit, follow, no_worths, pure_choices}
 use Rattle.pure_search.proofs.Marking.{listed}
@@ -90,9 +90,11 @@ what_is_found d place found f answers count gains =
     let w : IsWorld (counts_for d.nodes) (choices_at d.nodes place) = listed d.nodes place inside in
     let profile : found_profile d found ≡ profile_of d.nodes (choices_at d.nodes place) = ap (pure_profile d.nodes) answers ∙ answered_profile d.nodes (choices_at d.nodes place) in
     record {
-      follow = ap (map (λ (a : AnswerView). a.decision)) answers ∙ follow d.nodes (decisions_of d.nodes) (choices_at d.nodes place);
-      answers = subst (All (FitsAnswer d.nodes)) (sym answers) (answers_fit d.nodes (decisions_of d.nodes) (choices_at d.nodes place) (decided d.nodes) (fits_of (counts_for d.nodes) (choices_at d.nodes place) w));
-      worths = subst (All HasNoWorths) (sym answers) (no_worths d.nodes (decisions_of d.nodes) (choices_at d.nodes place));
+      choices = record {
+        follow = ap (map (λ (a : AnswerView). a.decision)) answers ∙ follow d.nodes (decisions_of d.nodes) (choices_at d.nodes place);
+        fits = subst (All (FitsAnswer d.nodes)) (sym answers) (answers_fit d.nodes (decisions_of d.nodes) (choices_at d.nodes place) (decided d.nodes) (fits_of (counts_for d.nodes) (choices_at d.nodes place) w));
+        worthless = subst (All HasNoWorths) (sym answers) (no_worths d.nodes (decisions_of d.nodes) (choices_at d.nodes place));
+      };
       first = record { place = place; first = f; stands = profile_there d.nodes place inside ∙ sym profile };
       count = count;
       gains = subst (λ p. IsGains d p found.gains) (sym profile) gains;

@@ -1,11 +1,10 @@
 -- From one list of choices to the next.
-use Rattle.std.proofs.Common.{◌≡◌, ◌∙◌, ℕ, zero, suc, ◌+◌, ◌-◌, ◌<◌, ◌≤◌, List, [], ◌∷◌, ◌++◌, map, length, get_or, slice_index_or, take, drop, set, replicate, refl, sym, ap, subst, arith, add-one, Bool, true, false, All, flat_map}
-use Rattle.std.specs.List.{range_with_len}
-use Rattle.std.proofs.Math.ListN.{length-append, length-take, length-replicate}
+use Rattle.std.proofs.Common.{◌≡◌, ◌∙◌, ℕ, zero, suc, ◌+◌, ◌-◌, ◌<◌, ◌≤◌, List, [], ◌∷◌, ◌++◌, length, get_or, slice_index_or, take, drop, set, replicate, refl, sym, ap, subst, arith, add-one, Bool, true, false, All}
 use Rattle.maid_model.specs.Nodes.{decisions_of, rows_of, states_of}
 use Rattle.maid_model.specs.Views.{NodeView}
 use Rattle.maid_model.specs.Worlds.{worlds, worlds_from, IsWorld}
 use Rattle.maid_model.proofs.Next.{AllPositive, NextSoFar, IsWorld-tail, counts_positive, step_more, step_back}
+use Rattle.maid_model.proofs.Adding.{some_rest}
 use Rattle.reach_laws.specs.Equilibria.{choice_counts}
 use Rattle.pure_search.specs.Games.{counts_for}
 
@@ -69,9 +68,6 @@ set_is (c ∷ cs) (x ∷ xs) (suc u) y w l = more (set_is cs xs u y (IsWorld-tai
         each zero k = w.each 0 (omega arith)
         each (suc v) k = r.each v (omega arith)
 
-pub so_far_length : (cs old xs : List ℕ) (v : ℕ) → NextSoFar cs old xs v → length xs ≡ length old
-so_far_length cs old xs v s = ap length s.now ∙ simp (length-append, length-take, length-replicate) (let h : v ≤ length old = s.within in omega arith)
-
 -- ---- one turn of the loop
 module _ (cs old xs : List ℕ) (v : ℕ) (w : IsWorld cs old) (s : NextSoFar cs old xs v) (h : 0 < v) where
   pub turn_more : get_or xs (v - 1) 0 < get_or cs (v - 1) 0 - 1 → worlds_from cs old ≡ old ∷ worlds_from cs (set xs (v - 1) (get_or xs (v - 1) 0 + 1))
@@ -82,11 +78,6 @@ module _ (cs old xs : List ℕ) (v : ℕ) (w : IsWorld cs old) (s : NextSoFar cs
 
   pub turn_is : get_or xs (v - 1) 0 < get_or cs (v - 1) 0 - 1 → IsWorld cs (set xs (v - 1) (get_or xs (v - 1) 0 + 1))
   turn_is lt = set_is cs xs (v - 1) (get_or xs (v - 1) 0 + 1) (so_far_is cs old xs v w s) (omega (arith, lt))
-
-pub positive_at : (cs : List ℕ) → AllPositive cs → (i : ℕ) → i < length cs → 0 < get_or cs i 0
-positive_at [] h i l = absurd (omega arith)
-positive_at (c ∷ cs) h zero l = h.0
-positive_at (c ∷ cs) h (suc i) l = positive_at cs h.1 i (omega arith)
 
 -- ---- places of the list of all
 pub at_front : (cs xs : List ℕ) (i : ℕ) → i < length (worlds cs) → drop i (worlds cs) ≡ worlds_from cs xs → (rest : List (List ℕ)) → worlds_from cs xs ≡ xs ∷ rest → xs ≡ slice_index_or (worlds cs) i []
@@ -137,19 +128,9 @@ written n new old e f = ap (λ k. take k (new ++ drop (length new) old)) (f ∙ 
     go (x ∷ xs) ys = ap (λ l. x ∷ l) (go xs ys)
 
 -- ---- the list at a place
--- some list comes after each place but the last
-goes_on : (cs xs : List ℕ) → IsWorld cs xs → (rest : List (List ℕ)) × (worlds_from cs xs ≡ xs ∷ rest)
-goes_on [] [] w = ([], refl)
-goes_on [] (x ∷ xs) w = absurd (omega (arith, w.len))
-goes_on (c ∷ cs) [] w = absurd (omega (arith, w.len))
-goes_on (c ∷ cs) (x ∷ xs) w =
-    let r = goes_on cs xs (IsWorld-tail c x cs xs w) in (
-      map (λ ys. x ∷ ys) r.0 ++ flat_map (λ s. map (λ ys. s ∷ ys) (worlds cs)) (range_with_len (x + 1) (c - (x + 1))),
-      ap (λ l. map (λ ys. x ∷ ys) l ++ flat_map (λ s. map (λ ys. s ∷ ys) (worlds cs)) (range_with_len (x + 1) (c - (x + 1)))) r.1,
-    )
 
 pub placed : (cs xs : List ℕ) (place : ℕ) → IsWorld cs xs → place < length (worlds cs) → worlds_from cs xs ≡ drop place (worlds cs) → xs ≡ slice_index_or (worlds cs) place []
-placed cs xs place w l e = let r = goes_on cs xs w in at_front cs xs place l (sym e) r.0 r.1
+placed cs xs place w l e = let r = some_rest cs xs w in at_front cs xs place l (sym e) r.0 r.1
 
 -- the next one stands at the next place
 pub stepped : (cs xs next : List ℕ) (place : ℕ) (more : Bool) → worlds_from cs xs ≡ drop place (worlds cs) → place + 1 < length (worlds cs)

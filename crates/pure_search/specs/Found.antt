@@ -1,10 +1,8 @@
 -- The first pure equilibrium of a diagram.
-use Rattle.std.specs.Prelude.{◌≡◌, ℕ, List, [], map, length, All, None, slice_index_or}
+use Rattle.std.specs.Prelude.{◌≡◌, ℕ, List, [], length, slice_index_or}
 use Rattle.maid_model.specs.declared.answers.Ratio.{Ratio}
-use Rattle.maid_model.specs.declared.answers.Row.{Row}
 use Rattle.maid_model.specs.Views.{NodeView, DiagramView, RuleView, AnswerView}
-use Rattle.maid_model.specs.Nodes.{decisions_of}
-use Rattle.maid_model.specs.Answers.{FitsAnswer, IsGains, pure_profile}
+use Rattle.maid_model.specs.Answers.{AreChoices, IsGains, pure_profile}
 use Rattle.reach_laws.specs.Equilibria.{IsEquilibrium, IsFirstPure, pure_profiles}
 
 -- answered decisions, and what they are worth to each agent
@@ -22,16 +20,10 @@ pub record IsFirstStable (nodes : List NodeView) (s : List RuleView) : Type 0 wh
   pub first : IsFirstPure nodes place
   pub stands : slice_index_or (pure_profiles nodes) place [] ≡ s
 
--- no row says what it is worth
-abbrev pub HasNoWorths : AnswerView → Type 0
-HasNoWorths answer = All (λ (r : Row). r.worth ≡ None) answer.rows
-
 -- Each decision in text order with a choice in each row, and no worths; together the choices are the first pure
 -- equilibrium, and the gains are its expected utilities, one for each agent.
 pub record IsPureFound (d : DiagramView) (found : PureView) : Type 0 where
-  pub follow : map (λ (a : AnswerView). a.decision) found.answers ≡ decisions_of d.nodes
-  pub answers : All (FitsAnswer d.nodes) found.answers
-  pub worths : All HasNoWorths found.answers
+  pub choices : AreChoices d.nodes found.answers
   pub first : IsFirstStable d.nodes (found_profile d found)
   pub count : length found.gains ≡ d.agents
   pub gains : IsGains d (found_profile d found) found.gains

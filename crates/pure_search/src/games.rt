@@ -1,11 +1,10 @@
 //! The rows in which choices are taken.
 
 ghost use Rattle.std.specs.Prelude.{◌≡◌, ◌<◌, ◌++◌, All, IfOk, OnOk, length, replicate};
-ghost use Rattle.maid_model.specs.Nodes.{decisions_of};
 ghost use Rattle.reach_laws.specs.Equilibria.{choice_counts, choice_owners};
 ghost use Rattle.pure_search.specs.Games.{IsGameOf};
 
-use maid_model::{Diagram, Kind};
+use maid_model::Diagram;
 use std::alloc::{AllocError, Global};
 
 /// The decisions of a diagram, and for each of their rows, decisions in text order, how many choices there are and whose
@@ -28,19 +27,6 @@ fn push_times(
 {
     let block = vec![in alloc; number; times]?;
     list.extend_from_slice(&block)
-}
-
-/// The decisions, in text order.
-fn decisions_of(alloc: Global, diagram: &Diagram) -> Result<Vec<usize>, AllocError>
-    ensures { IfOk result (λ list. list.items ≡ decisions_of diagram.now.nodes) }
-{
-    let mut list = Vec::new(alloc);
-    for v in 0..diagram.count() {
-        if let Kind::Decision = diagram.kind(v) {
-            list.push(v)?;
-        }
-    }
-    Ok(list)
 }
 
 /// For each row of the decisions how many choices there are.
@@ -79,7 +65,7 @@ fn choice_owners(
 pub(crate) fn game_of(alloc: Global, diagram: &Diagram) -> Result<Game, AllocError>
     ensures { IfOk result (IsGameOf diagram.now.nodes) }
 {
-    let decisions = decisions_of(alloc, diagram)?;
+    let decisions = diagram.decisions(alloc)?;
     let counts = choice_counts(alloc, diagram, &decisions)?;
     let owners = choice_owners(alloc, diagram, &decisions)?;
     Ok(Game {

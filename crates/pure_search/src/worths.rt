@@ -1,8 +1,7 @@
 //! What a profile is worth to each agent.
 
-ghost use Rattle.std.specs.Prelude.{◌≡◌, ◌<◌, ◌≤◌, IfOk, length, nat_abs};
-ghost use Rattle.maid_model.specs.Answers.{IsFraction, IsGains};
-ghost use Rattle.maid_model.specs.Diagrams.{greatest_number};
+ghost use Rattle.std.specs.Prelude.{◌≡◌, ◌<◌, IfOk, length};
+ghost use Rattle.maid_model.specs.Answers.{IsGains};
 ghost use Rattle.maid_model.specs.Profiles.{IsProfile};
 ghost use Rattle.maid_model.specs.Scopes.{KeepsScopedBounds};
 ghost use Rattle.part_laws.specs.ScopeLaws.{HasUnitRules};
@@ -11,18 +10,7 @@ ghost use Rattle.tree_checker.specs.Judged.{AreWorth};
 use crate::tables::part_for;
 use maid_model::{Diagram, Profile, Ratio};
 use std::alloc::{AllocError, Global};
-use tree_checker::{gain_over, mass_of, rules_in_part, scale_of};
-use whole_num::reduce;
-
-/// The fraction in lowest terms.
-fn fraction(num: i128, den: u128) -> Ratio
-    requires den { 0 < den }
-    requires num { nat_abs num ≤ greatest_number }
-    ensures { IsFraction result num den }
-{
-    let (num, den) = reduce(num, den);
-    Ratio { num, den }
-}
+use tree_checker::{gain_over, mass_of, rules_in_part};
 
 /// What the rules are worth to the agent, by the worlds of its part.
 fn worth(
@@ -42,7 +30,7 @@ fn worth(
     let rules = rules_in_part(alloc, diagram, chosen, &part.nodes)?;
     let sum = gain_over(alloc, &part.diagram, &rules, agent)?;
     let mass = mass_of(&part.diagram, &rules);
-    Ok(fraction(sum, mass * scale_of(diagram)))
+    Ok(Ratio::reduced(sum, mass * diagram.scale()))
 }
 
 /// What the rules are worth to each agent.

@@ -13,24 +13,7 @@ use Rattle.diagram_graph.specs.Needs.{needs_of}
 use Rattle.relevance_graph.specs.Steps.{ListsBelow, TellsReliance}
 use Rattle.relevance_graph.specs.Views.{IsRising}
 
-none_in : (v : ℕ) → Contains [] v → ⊥
-none_in v c = let l = c.1 in absurd (omega arith)
-
 module _ (P : ℕ → Type 0) where
-  -- no number is below 0
-  pub lists_none : ListsBelow P 0 []
-  lists_none = record {
-    members = λ v. ((λ c. absurd (none_in v c)), (λ h. let l = h.1 in absurd (omega arith)));
-    rising = λ i j l m. absurd (omega arith);
-  }
-
-  -- nothing has the property
-  pub lists_no : (n : ℕ) → ((v : ℕ) → P v → ⊥) → ListsBelow P n []
-  lists_no n never = record {
-    members = λ v. ((λ c. absurd (none_in v c)), (λ h. absurd (never v h.0)));
-    rising = λ i j l m. absurd (omega arith);
-  }
-
   -- the next number has the property, and is added at the end
   pub lists_push : (n : ℕ) (list : List ℕ) → ListsBelow P n list → P n → ListsBelow P (n + 1) (list ++ n ∷ [])
   lists_push n list h p = record {

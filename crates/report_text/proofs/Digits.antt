@@ -1,7 +1,7 @@
 -- Decimal digits of up to 128 bits, and back.
-use Rattle.std.proofs.Common.{◌≡◌, ◌≢◌, ℕ, zero, suc, ◌<◌, ◌≤◌, ◌^◌, List, [], ◌∷◌, drop, true, Result, Ok, Option, None, Some, refl, sym, ◌∙◌, ap, subst, arith}
+use Rattle.std.proofs.Common.{◌≡◌, ◌≢◌, ℕ, zero, suc, ◌<◌, ◌≤◌, ◌^◌, List, [], ◌∷◌, drop, true, Result, Ok, refl, sym, ◌∙◌, ap, subst, arith}
 use lib.IntN.{neg_ℤ}
-use Rattle.std.specs.Prelude.{ℤ, pos, negsuc, decimal, IfNone, FitsSigned}
+use Rattle.std.specs.Prelude.{ℤ, pos, negsuc, decimal, FitsSigned}
 use Rattle.std.specs.Int.{w128}
 use Rattle.std.specs.Fmt.{signed_decimal}
 use Rattle.std.specs.Str.{IsAscii, IsUtf8}
@@ -21,10 +21,6 @@ fits_wide n h = omega arith
 abbrev pub IsWithin : ℤ → Type 0
 IsWithin (pos n) = n ≤ 2 ^ 128
 IsWithin (negsuc n) = suc n ≤ 2 ^ 128
-
-pub none_holds : {A P : Type 0} (o : Option A) → P → IfNone o P
-none_holds None p = p
-none_holds (Some x) p = tt
 
 pub decimal_one : (m n : ℕ) → m ≤ 2 ^ 128 → n ≤ 2 ^ 128 → decimal m ≡ decimal n → m ≡ n
 decimal_one m n p q e = sym (decimal_is_IsNumeral_wide m (fits_wide m p)).1 ∙ ap (digits_value 10) e ∙ (decimal_is_IsNumeral_wide n (fits_wide n q)).1

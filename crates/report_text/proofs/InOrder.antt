@@ -23,9 +23,6 @@ lacks_all byte (b ∷ bytes) all = rw (lacks_from b byte (all 0 0 (omega arith))
 pub name_lacks_space : (names : NamesView) → AreTold names → (v : ℕ) → v < length names.nodes → lacks 32 (name_of names v) ≡ true
 name_lacks_space names told v h = lacks_all 32 (name_of names v) (λ k d l. (told.words v [] h k d l).1)
 
-pub name_one_line : (names : NamesView) → AreTold names → (v : ℕ) → v < length names.nodes → lacks 10 (name_of names v) ≡ true
-name_one_line names told v h = lacks_all 10 (name_of names v) (λ k d l. (told.words v [] h k d l).0)
-
 -- names differ
 pub one_name : (names : NamesView) → AreTold names → (u v : ℕ) → u < length names.nodes → v < length names.nodes → name_of names u ≡ name_of names v → u ≡ v
 one_name names told u v h k e = by_order (cases_order u v)
@@ -48,10 +45,6 @@ pushed_words : (names : NamesView) (items : List ℕ) (node : ℕ) (others : Lis
 pushed_words names items node others =
     ap (λ x. (codes "order:" ++ x) ++ others) (spaced_push names items node)
     ∙ ap (λ x. codes "order:" ++ x) (append_assoc (spaced (map (name_of names) items)) (32 ∷ name_of names node) others)
-
-pub no_bytes : (bytes : List ℕ) → length bytes ≡ 0 → bytes ≡ []
-no_bytes [] e = refl
-no_bytes (b ∷ bytes) e = absurd (omega arith)
 
 -- lists of different numbers
 pub different_push : (xs : List ℕ) (v : ℕ) → AllDifferent xs → (Contains xs v → ⊥) → AllDifferent (xs ++ v ∷ [])

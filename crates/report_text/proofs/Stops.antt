@@ -62,9 +62,6 @@ module _ (nodes : List NodeView) (names : NamesView) where
   stuck_behind slots others old new NoMemory passes h = tt
   stuck_behind slots others old new (BadLine number) passes h = passes others number h
 
-  pub passes_none : (lines : LinesView) → PassesLines nodes names [] lines lines
-  passes_none lines others number h = h
-
   pub passes_one : (slot : Slot) (line : List ℕ) (old new : LinesView) → Shows nodes names slot (line ++ 10 ∷ []) → IsTaken line old new → PassesLines nodes names (slot ∷ []) old new
   passes_one slot line old new shows taken others number h =
       subst (λ lines. StopsIn nodes names (slot ∷ others) lines old.read number) (sym (taken_lines line old new taken))

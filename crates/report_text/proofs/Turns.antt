@@ -3,7 +3,7 @@ use Rattle.std.proofs.Common.{◌≡◌, ℕ, zero, suc, ◌+◌, ◌-◌, ◌<�
 use Rattle.std.specs.Prelude.{All}
 use Rattle.std.specs.List.{flat_map}
 use Rattle.std.proofs.lemmas.List.{append-nil, take-append-drop}
-use Rattle.std.proofs.lemmas.List.Elements.{All-nil, All-push}
+use Rattle.std.proofs.lemmas.List.Elements.{All-push}
 use Rattle.maid_model.specs.declared.answers.Ratio.{Ratio}
 use Rattle.maid_model.specs.declared.answers.Row.{Row}
 use Rattle.maid_model.specs.Views.{NodeView, AnswerView}
@@ -13,7 +13,7 @@ use Rattle.maid_model.specs.Reports.{decision_head, decision_lines, gain_line, g
 use Rattle.report_text.specs.Reading.{FitsRatio}
 use Rattle.report_text.specs.declared.reading.ReportFault.{ReportFault}
 use Rattle.report_text.specs.Slots.{Told, OfRow, OfGain, IsRead, IsRow, IsStuck, IsTaken, LinesView, PassesLines, ReadsAnswer, ReadsAnswers, ReadsGains, ReadsRows, answer_slots, decision_words, gain_slots, gain_words, row_slots, row_words}
-use Rattle.report_text.proofs.Stops.{passes_none, passes_one, passes_then, stuck_behind, stuck_front}
+use Rattle.report_text.proofs.Stops.{passes_one, passes_then, stuck_behind, stuck_front}
 use Rattle.report_text.proofs.Unended.{gain_line_is, row_line_is}
 
 -- the places of the rows fall into the first ones, one, and the others
@@ -73,9 +73,6 @@ ended_bytes : (mid words new line : List ℕ) → mid ≡ words ++ 10 ∷ new �
 ended_bytes mid words new line e f = e ∙ sym (append_assoc words (10 ∷ []) new) ∙ ap (λ x. x ++ new) (sym f)
 
 module _ (nodes : List NodeView) (names : NamesView) where
-  pub rows_none : (d : ℕ) (lines : LinesView) → ReadsRows nodes names d 0 [] lines lines
-  rows_none d lines = record { count = refl; rows = All-nil (IsRow nodes d); bytes = refl; passes = passes_none nodes names lines }
-
   pub rows_step : (d number : ℕ) (rows : List Row) (row : Row) (old mid new : LinesView) → ReadsRows nodes names d number rows old mid → IsRow nodes d row → IsTaken (row_words nodes names d number row) mid new → ReadsRows nodes names d (number + 1) (rows ++ row ∷ []) old new
   rows_step d number rows row old mid new so is taken = record {
     count = length-append rows (row ∷ []) ∙ ap (λ n. n + 1) so.count;
@@ -100,9 +97,6 @@ module _ (nodes : List NodeView) (names : NamesView) where
       let whole : row_slots d 0 count ≡ row_slots d 0 number ++ OfRow d number ∷ row_slots d (0 + number + 1) (count - suc number) = ap (row_slots d 0) (sym size) ∙ row_slots_split d 0 number (count - suc number) ∙ ap (λ n. row_slots d 0 number ++ OfRow d n ∷ row_slots d (0 + number + 1) (count - suc number)) here in
       subst (λ s. IsStuck nodes names s old fault) (sym whole)
       (stuck_behind nodes names (row_slots d 0 number) (OfRow d number ∷ row_slots d (0 + number + 1) (count - suc number)) old mid fault so.passes (stuck_front nodes names (OfRow d number ∷ []) (row_slots d (0 + number + 1) (count - suc number)) mid fault stuck))
-
-  pub gains_none : (lines : LinesView) → ReadsGains nodes names 0 [] lines lines
-  gains_none lines = record { count = refl; gains = All-nil FitsRatio; bytes = refl; passes = passes_none nodes names lines }
 
   pub gains_step : (agent : ℕ) (gains : List Ratio) (gain : Ratio) (old mid new : LinesView) → ReadsGains nodes names agent gains old mid → FitsRatio gain → IsTaken (gain_words names agent gain) mid new → ReadsGains nodes names (agent + 1) (gains ++ gain ∷ []) old new
   gains_step agent gains gain old mid new so is taken = record {
@@ -141,10 +135,6 @@ module _ (nodes : List NodeView) (names : NamesView) where
 
   pub answer_stuck : (d : ℕ) (old mid : LinesView) (fault : ReportFault) → IsTaken (decision_words nodes names d) old mid → IsStuck nodes names (row_slots d 0 (rows_of nodes d)) mid fault → IsStuck nodes names (answer_slots nodes names d) old fault
   answer_stuck d old mid fault taken stuck = stuck_behind nodes names (Told (decision_head nodes names d) ∷ []) (row_slots d 0 (rows_of nodes d)) old mid fault (passes_one nodes names (Told (decision_head nodes names d)) (decision_words nodes names d) old mid refl taken) stuck
-
-  -- decisions in turn
-  pub answers_none : (lines : LinesView) → ReadsAnswers nodes names [] [] lines lines
-  answers_none lines = record { follow = refl; each = All-nil (IsRead nodes); bytes = refl; passes = passes_none nodes names lines }
 
   flat_push : {A B : Type 0} (f : A → List B) (xs : List A) (x : A) → flat_map f (xs ++ x ∷ []) ≡ flat_map f xs ++ f x
   flat_push f [] x = append-nil (f x)

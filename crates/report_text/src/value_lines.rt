@@ -21,13 +21,8 @@ fn read_worth(bytes: &[u8]) -> Option<Option<Ratio>>
     if bytes == b" never".as_slice() {
         return Some(None);
     }
-    match behind(bytes, b" = ") {
-        Some(value) => match read_ratio(value) {
-            Some(worth) => Some(Some(worth)),
-            None => None,
-        },
-        None => None,
-    }
+    let worth = read_ratio(behind(bytes, b" = ")?)?;
+    Some(Some(worth))
 }
 
 // The state whose number, from 1, stands before the first space.

@@ -1,15 +1,11 @@
 //! The diagram without the arcs that decisions do not need.
 
 ghost use Rattle.std.specs.Prelude.{IfOk};
-ghost use Rattle.maid_model.specs.Edits.{without_arc};
-ghost use Rattle.maid_model.specs.Graph.{Arc};
-ghost use Rattle.maid_model.specs.Nodes.{IsDecision};
-ghost use Rattle.diagram_graph.specs.Edited.{IsWithNodes};
 ghost use Rattle.requisite_trim.specs.Trims.{IsTrimming};
 
 use crate::looks::first_to_remove;
 use arc_laws::trimmed_optimum;
-use diagram_graph::{RemoveFault, copy_diagram, remove_arc};
+use diagram_graph::{copy_diagram, without_arc};
 use maid_model::Diagram;
 use std::alloc::{AllocError, Global};
 
@@ -19,19 +15,6 @@ use std::alloc::{AllocError, Global};
 pub struct Trimmed {
     pub diagram: Diagram,
     pub removed: Vec<(usize, usize)>,
-}
-
-/// The diagram without an arc that is there.
-fn without(alloc: Global, diagram: &Diagram, from: usize, to: usize) -> Result<Diagram, AllocError>
-    requires decision { IsDecision diagram.now.nodes to }
-    requires arc { Arc diagram.now.nodes from to }
-    ensures { IfOk result (IsWithNodes diagram.now (without_arc diagram.now.nodes from to)) }
-{
-    match remove_arc(alloc, diagram, from, to) {
-        Ok(less) => Ok(less),
-        Err(RemoveFault::NotPresent) => unreachable!(),
-        Err(RemoveFault::NoMemory) => Err(AllocError),
-    }
 }
 
 /// Removes the first arc that is not requisite, in text order of decisions and then in the order of the decision's
@@ -53,7 +36,7 @@ pub fn trim(alloc: Global, diagram: &Diagram) -> Result<Trimmed, AllocError>
     let mut removed = Vec::new(alloc);
     let mut trimmed = copy_diagram(alloc, diagram)?;
     'looks: while let Some((from, to)) = first_to_remove(&trimmed) {
-        trimmed = without(alloc, &trimmed, from, to)?;
+        trimmed = without_arc(alloc, &trimmed, from, to)?;
         removed.push((from, to))?;
     }
     let _count = trimmed.count();

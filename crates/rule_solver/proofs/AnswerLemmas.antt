@@ -1,5 +1,5 @@
 -- The answer, put together from what is answered at each decision in turn.
-use Rattle.std.proofs.Common.{◌≡◌, ◌∙◌, ◌⊎◌, inl, inr, ℕ, zero, suc, ◌+◌, ◌*◌, ◌^◌, ◌<◌, ◌≤◌, List, [], ◌∷◌, ◌++◌, All, Contains, length, map, take, get_or, slice_index, cond, eqb, refl, sym, ap, subst, arith}
+use Rattle.std.proofs.Common.{◌≡◌, ◌∙◌, ◌⊎◌, inl, inr, ℕ, zero, suc, ◌+◌, ◌*◌, ◌^◌, ◌<◌, List, [], ◌∷◌, ◌++◌, All, Contains, length, map, take, get_or, slice_index, cond, eqb, refl, sym, ap, subst, arith}
 use Rattle.std.proofs.lemmas.List.{length-map, take_more, get_or_default}
 use Rattle.std.proofs.lemmas.List.Elements.{All-push}
 use Rattle.std.proofs.Math.Decide.{ℕ_discrete}
@@ -11,13 +11,14 @@ use Rattle.maid_model.specs.Nodes.{rows_of, states_of}
 use Rattle.maid_model.specs.Placing.{IsRelianceOrder}
 use Rattle.maid_model.specs.Relevance.{ReliesOn}
 use Rattle.maid_model.specs.Views.{NodeView, DiagramView, RuleView, AnswerView}
+use Rattle.maid_laws.proofs.Booleans.{eqb_yes}
 use Rattle.rule_solver.specs.Answered.{AnswersAll, IsAnsweredBy}
 use Rattle.rule_solver.specs.Masses.{HasGains}
 use Rattle.rule_solver.proofs.AnsweredRules.{rule_stays}
 use Rattle.rule_solver.proofs.BaseLemmas.{decided, same_then}
-use Rattle.rule_solver.proofs.Members.{head_or_rest, taken_whole}
+use Rattle.rule_solver.proofs.Members.{head_or_rest}
 use Rattle.rule_solver.proofs.Orders.{IsClosed, first_closed, relied_before, order_differs, placed_decision}
-use Rattle.rule_solver.proofs.Equals.{yes_at, no_at}
+use Rattle.rule_solver.proofs.Equals.{no_at}
 
 -- what holds of each answer holds of the rows found at a decision
 pub rows_found : (P : ℕ → List Row → Type 0) (answers : List AnswerView) → All (λ a. P a.decision a.rows) answers → (v : ℕ) → Contains (map (λ a. a.decision) answers) v → P v (rows_at answers v)
@@ -32,7 +33,7 @@ rows_found P (a ∷ answers) all v c = go (ℕ_discrete a.decision v) (rows_foun
     some = omega arith
 
     go : Dec (a.decision ≡ v) → (Contains (map (λ a. a.decision) answers) v → P v (rows_at answers v)) → P v (cond (eqb a.decision v) a.rows (rows_at answers v))
-    go (yes e) r = subst (λ b. P v (cond b a.rows (rows_at answers v))) (sym (yes_at a.decision v e)) (subst (λ u. P u a.rows) e (all 0 a some))
+    go (yes e) r = subst (λ b. P v (cond b a.rows (rows_at answers v))) (sym (eqb_yes a.decision v e)) (subst (λ u. P u a.rows) e (all 0 a some))
     go (no n) r = subst (λ b. P v (cond b a.rows (rows_at answers v))) (sym (no_at a.decision v n)) (r (later n (head_or_rest a.decision (map (λ a. a.decision) answers) v c)))
 
 -- the decision of an answer is that of its place in the order
@@ -88,10 +89,6 @@ answers-none nodes decimals order = record { follow = none order; fits = λ k e 
     none : (xs : List ℕ) → [] ≡ take 0 xs
     none [] = refl
     none (x ∷ xs) = refl
-
--- in the end all is answered
-pub answers-end : (nodes : List NodeView) (decimals : ℕ) (order : List ℕ) (n : ℕ) (answers : List AnswerView) → length order ≤ n → AnswersAll nodes decimals (take n order) answers → AnswersAll nodes decimals order answers
-answers-end nodes decimals order n answers h so = subst (λ l. AnswersAll nodes decimals l answers) (taken_whole order n h) so
 
 pub answers_fit : (nodes : List NodeView) (decimals : ℕ) (order : List ℕ) (answers : List AnswerView) → IsRelianceOrder nodes order → AnswersAll nodes decimals order answers → FitsAnswers nodes answers
 answers_fit nodes decimals order answers is_order h v is =

@@ -7,8 +7,9 @@ use Rattle.maid_model.specs.Nodes.{IsDecision, decisions_of}
 use Rattle.maid_model.specs.Profiles.{SameRule, pure_rule}
 use Rattle.maid_model.specs.Tables.{weights_of, rule_total}
 use Rattle.maid_model.specs.Views.{NodeView, RuleView, AnswerView}
+use Rattle.maid_laws.proofs.Booleans.{eqb_yes}
 use Rattle.rule_solver.proofs.Members.{after, head_or_rest, decision_listed}
-use Rattle.rule_solver.proofs.Equals.{yes_at, no_at}
+use Rattle.rule_solver.proofs.Equals.{no_at}
 
 -- ---- the rule of a profile that is made for each decision of a list
 module _ (f : ℕ → RuleView) (own : (v : ℕ) → (f v).decision ≡ v) where
@@ -17,7 +18,7 @@ module _ (f : ℕ → RuleView) (own : (v : ℕ) → (f v).decision ≡ v) where
   made_weights (d ∷ ds) v c = go (ℕ_discrete d v) (head_or_rest d ds v c) (made_weights ds v)
     where
       go : Dec (d ≡ v) → (d ≡ v) ⊎ Contains ds v → (Contains ds v → weights_of (map f ds) v ≡ (f v).weights) → cond (eqb (f d).decision v) (f d).weights (weights_of (map f ds) v) ≡ (f v).weights
-      go (yes e) m r = ap (λ b. cond b (f d).weights (weights_of (map f ds) v)) (yes_at (f d).decision v (own d ∙ e)) ∙ ap (λ u. (f u).weights) e
+      go (yes e) m r = ap (λ b. cond b (f d).weights (weights_of (map f ds) v)) (eqb_yes (f d).decision v (own d ∙ e)) ∙ ap (λ u. (f u).weights) e
       go (no n) (inl e) r = absurd (n e)
       go (no n) (inr m) r = ap (λ b. cond b (f d).weights (weights_of (map f ds) v)) (no_at (f d).decision v (λ e. n (sym (own d) ∙ e))) ∙ r m
 
@@ -26,7 +27,7 @@ module _ (f : ℕ → RuleView) (own : (v : ℕ) → (f v).decision ≡ v) where
   made_total (d ∷ ds) v c = go (ℕ_discrete d v) (head_or_rest d ds v c) (made_total ds v)
     where
       go : Dec (d ≡ v) → (d ≡ v) ⊎ Contains ds v → (Contains ds v → rule_total (map f ds) v ≡ (f v).total) → cond (eqb (f d).decision v) (f d).total (rule_total (map f ds) v) ≡ (f v).total
-      go (yes e) m r = ap (λ b. cond b (f d).total (rule_total (map f ds) v)) (yes_at (f d).decision v (own d ∙ e)) ∙ ap (λ u. (f u).total) e
+      go (yes e) m r = ap (λ b. cond b (f d).total (rule_total (map f ds) v)) (eqb_yes (f d).decision v (own d ∙ e)) ∙ ap (λ u. (f u).total) e
       go (no n) (inl e) r = absurd (n e)
       go (no n) (inr m) r = ap (λ b. cond b (f d).total (rule_total (map f ds) v)) (no_at (f d).decision v (λ e. n (sym (own d) ∙ e))) ∙ r m
 
@@ -44,7 +45,7 @@ answered_total nodes answers v d = made_total (answered_rule nodes answers) (λ 
 -- where decisions differ, the rows at an answer's decision are its own
 pub own_rows : (answers : List AnswerView) (i : ℕ) (a : AnswerView) → AllDifferent (map (λ a. a.decision) answers) → i < length answers → get_or answers i a ≡ a → rows_at answers a.decision ≡ a.rows
 own_rows [] i a different h e = absurd (omega arith)
-own_rows (x ∷ answers) zero a different h e = ap (λ b. cond b x.rows (rows_at answers a.decision)) (yes_at x.decision a.decision (ap (λ (y : AnswerView). y.decision) e)) ∙ ap (λ (y : AnswerView). y.rows) e
+own_rows (x ∷ answers) zero a different h e = ap (λ b. cond b x.rows (rows_at answers a.decision)) (eqb_yes x.decision a.decision (ap (λ (y : AnswerView). y.decision) e)) ∙ ap (λ (y : AnswerView). y.rows) e
 own_rows (x ∷ answers) (suc i) a different h e =
     ap (λ b. cond b x.rows (rows_at answers a.decision)) (no_at x.decision a.decision (λ f. different.0 (subst (Contains (map (λ a. a.decision) answers)) (sym f) (listed answers i (omega arith) e))))
     ∙ own_rows answers i a different.1 (omega arith) e
@@ -61,7 +62,7 @@ rows_stay (x ∷ answers) a v c = go (ℕ_discrete x.decision v) (head_or_rest x
   where
     go : Dec (x.decision ≡ v) → (x.decision ≡ v) ⊎ Contains (map (λ a. a.decision) answers) v → (Contains (map (λ a. a.decision) answers) v → rows_at (answers ++ a ∷ []) v ≡ rows_at answers v)
         → cond (eqb x.decision v) x.rows (rows_at (answers ++ a ∷ []) v) ≡ cond (eqb x.decision v) x.rows (rows_at answers v)
-    go (yes e) m r = ap (λ b. cond b x.rows (rows_at (answers ++ a ∷ []) v)) (yes_at x.decision v e) ∙ ap (λ b. cond b x.rows (rows_at answers v)) (sym (yes_at x.decision v e))
+    go (yes e) m r = ap (λ b. cond b x.rows (rows_at (answers ++ a ∷ []) v)) (eqb_yes x.decision v e) ∙ ap (λ b. cond b x.rows (rows_at answers v)) (sym (eqb_yes x.decision v e))
     go (no n) (inl e) r = absurd (n e)
     go (no n) (inr m) r = ap (cond (eqb x.decision v) x.rows) (r m)
 

@@ -8,7 +8,7 @@ use Rattle.maid_model.specs.Graph.{AllDifferent}
 use Rattle.maid_model.specs.Nodes.{IsDecision, states_of}
 use Rattle.maid_model.specs.Profiles.{IsProfile, SameRule, Replaces, pure_rule, uniform_profile}
 use Rattle.maid_model.specs.Relevance.{ReliesOn}
-use Rattle.maid_model.specs.Tables.{weights_of, rule_total}
+use Rattle.maid_model.specs.Tables.{rule_total}
 use Rattle.maid_model.specs.Views.{NodeView, RuleView, AnswerView}
 use Rattle.rule_solver.specs.Masses.{KeepsStates}
 use Rattle.rule_solver.proofs.AnsweredRules.{answered_weights, answered_total, own_rows}
@@ -27,9 +27,6 @@ fits_at nodes answers i a all h e = subst (FitsAnswer nodes) e (all i a h)
 pub same_then : (p q r : List RuleView) (v : ℕ) → SameRule p q v → SameRule q r v → SameRule p r v
 same_then p q r v a b = record { weights = a.weights ∙ b.weights; total = a.total ∙ b.total }
 
-pub same_back : (p q : List RuleView) (v : ℕ) → SameRule p q v → SameRule q p v
-same_back p q v a = record { weights = sym a.weights; total = sym a.total }
-
 -- the base has the answered rules at those of the first n answered decisions that d relies on, and uniform rules elsewhere
 pub record BaseSoFar (nodes : List NodeView) (answers : List AnswerView) (d n : ℕ) (base : List RuleView) : Type 0 where
   pub profile : IsProfile nodes base
@@ -38,18 +35,6 @@ pub record BaseSoFar (nodes : List NodeView) (answers : List AnswerView) (d n : 
   pub others : (e : ℕ) → IsDecision nodes e → (Contains (take n (decided answers)) e → ReliesOn nodes d e → ⊥) → SameRule base (uniform_profile nodes) e
 
 module _ (nodes : List NodeView) (answers : List AnswerView) (d : ℕ) where
-  -- at first all rules are uniform
-  pub base_start : (base : List RuleView) → base ≡ uniform_profile nodes → IsProfile nodes base → ((v : ℕ) → IsDecision nodes v → rule_total base v ≡ states_of nodes v) → BaseSoFar nodes answers d 0 base
-  base_start base is profile total = record {
-    profile = profile;
-    room = λ v h. subst (λ n. n ≤ states_of nodes v) (sym (total v h)) (same (states_of nodes v));
-    relied = λ e c. absurd (omega (arith, c.1));
-    others = λ e h n. record { weights = ap (λ p. weights_of p e) is; total = ap (λ p. rule_total p e) is };
-  }
-    where
-      same : (n : ℕ) → n ≤ n
-      same n = omega arith
-
   module _ (n : ℕ) (base : List RuleView) (so : BaseSoFar nodes answers d n base) (a : AnswerView) (h : n < length answers) (at : get_or answers n a ≡ a) where
     inside : n < length (decided answers)
     inside = subst (λ k. n < k) (sym (length-map answers (λ (x : AnswerView). x.decision))) h

@@ -2,7 +2,7 @@
 use Rattle.std.proofs.Common.{◌≡◌, ◌∙◌, ℕ, zero, suc, ◌+◌, ◌-◌, ◌*◌, ◌%◌, ◌<◌, ◌≤◌, List, [], ◌∷◌, length, get_or, set, drop, refl, sym, ap, subst, slice_index, arith}
 use Rattle.std.specs.Prelude.{Contains}
 use Rattle.std.proofs.Math.Nat.{mul_assoc, mod_self, mod-eq_of_lt}
-use Rattle.std.proofs.Math.Seq.{drop-cons, drop-length}
+use Rattle.std.proofs.Math.Seq.{drop-cons}
 use Rattle.std.proofs.lemmas.List.{get_or_default, get_or-set_same, get_or-set_other}
 use Rattle.finite_sums.specs.Members.{Among, Avoids}
 use Rattle.finite_sums.proofs.Lists.{avoids}
@@ -60,16 +60,6 @@ pub record SetBack (nodes : List NodeView) (us old now : List ℕ) (i : ℕ) : T
   pub last : IsLast (states_of nodes) (world_of old) (drop i us)
   pub first : IsFirst (states_of nodes) (world_of now) (drop i us)
   pub others : (x : ℕ) → Avoids x (drop i us) → slice_index now x ≡ slice_index old x
-
--- none of them yet
-pub none_back : (nodes : List NodeView) (us old : List ℕ) → IsWorld (counts_of nodes) old → SetBack nodes us old old (length us)
-none_back nodes us old w = record {
-  within = omega arith;
-  world = w;
-  last = subst (IsLast (states_of nodes) (world_of old)) (sym (drop-length us)) (λ r. omega arith);
-  first = subst (IsFirst (states_of nodes) (world_of old)) (sym (drop-length us)) (λ r. omega arith);
-  others = λ x a. refl;
-}
 
 -- the node at place k goes back from its last state to its first
 back_at : (nodes : List NodeView) (us old now : List ℕ) (k v : ℕ) → Apart us → IsWorld (counts_of nodes) old

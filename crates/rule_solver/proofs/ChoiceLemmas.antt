@@ -25,7 +25,6 @@ use Rattle.rule_solver.specs.Sums.{IsRowGains, scope_gain}
 use Rattle.rule_solver.proofs.AnswerLemmas.{listed, rows_found}
 use Rattle.rule_solver.proofs.AnsweredRules.{rule_stays}
 use Rattle.rule_solver.proofs.BaseLemmas.{decided, same_then}
-use Rattle.rule_solver.proofs.Members.{taken_whole}
 use Rattle.rule_solver.proofs.Orders.{IsClosed, first_closed, relied_before, order_differs, placed_decision}
 
 -- ---- the rows of a decision
@@ -113,10 +112,6 @@ chosen-none nodes order = record { follow = none order; fits = λ k e h. absurd 
     none : (xs : List ℕ) → [] ≡ take 0 xs
     none [] = refl
     none (x ∷ xs) = refl
-
--- in the end all is chosen
-pub chosen-end : (nodes : List NodeView) (order : List ℕ) (n : ℕ) (answers : List AnswerView) → length order ≤ n → ChoosesAll nodes (take n order) answers → ChoosesAll nodes order answers
-chosen-end nodes order n answers h so = subst (λ l. ChoosesAll nodes l answers) (taken_whole order n h) so
 
 pub chosen_fit : (nodes : List NodeView) (order : List ℕ) (answers : List AnswerView) → IsRelianceOrder nodes order → ChoosesAll nodes order answers → FitsAnswers nodes answers
 chosen_fit nodes order answers is_order h v is =

@@ -5,7 +5,7 @@ use Rattle.std.specs.Prelude.{AllPairs}
 use Rattle.std.proofs.Math.Decide.{ℕ_discrete}
 use Rattle.std.proofs.Math.Nat.{mul_assoc}
 use Rattle.std.proofs.lemmas.Bool.Decides.{Decides-eqb}
-use Rattle.std.proofs.lemmas.List.{get_or_default, take-append-drop, take-take}
+use Rattle.std.proofs.lemmas.List.{get_or_default, take-append-drop}
 use Rattle.std.proofs.lemmas.List.Elements.{Contains-append_left, Contains-append_right}
 use Rattle.std.proofs.lemmas.Map.Made.{IsDistinct-from_AllPairs}
 use Rattle.std.proofs.lemmas.Nat.{mul-le}
@@ -63,10 +63,6 @@ module _ (nodes : List NodeView) (d : ℕ) where
 
   pub other_goals : (k : ℕ) (us : List ℕ) → k < length us → AreGoals nodes d us → AreGoals nodes d (drop k us)
   other_goals k us h are = record { some = other_some k us h; different = other_differ k us are.different; each = λ u c. are.each u (other_in k us u c) }
-
--- some of the first ones are the first of all
-pub first_of_first : (n k : ℕ) (us : List ℕ) → n ≤ k → take n (take k us) ≡ take n us
-first_of_first n k us l = take-take n k us l
 
 -- a product with one factor more
 pub product_push : (f : ℕ → ℕ) (us : List ℕ) (u m : ℕ) → m * nat_product_over f (us ++ u ∷ []) ≡ m * nat_product_over f us * f u

@@ -31,11 +31,12 @@ use Rattle.joint_sums.specs.Joint.{IsJointOrder, joint_ruled, joint_summed, scop
 use Rattle.joint_sums.proofs.PlanSteps.{summed_by_plans}
 use Rattle.joint_sums.proofs.ScopeNodes.{inside, no_utility, scope_nodes_are, node_within}
 use Rattle.size_precheck.specs.Sizes.{IsPlanned, SizedPlan, goal_list}
+use Rattle.scope_sums.proofs.Shares.{tested_product}
 use Rattle.rule_solver.specs.Sums.{IsSetting}
 use Rattle.rule_solver.specs.Together.{IsStepOf}
 use Rattle.rule_solver.specs.Totals.{product_in}
 use Rattle.rule_solver.proofs.GoalPlans.{goal_plan_at, goal_plans_long}
-use Rattle.rule_solver.proofs.Missing.{listed_product, tested_product}
+use Rattle.rule_solver.proofs.Missing.{listed_product}
 use Rattle.rule_solver.proofs.SettingLemmas.{bool_same, goal_at, in_room, index_of_goal}
 
 -- ---- the nodes with their own tables

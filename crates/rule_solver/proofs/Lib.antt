@@ -15,7 +15,6 @@ mod JointNodes
 mod JointRuns
 mod Listing
 mod MadeRooms
-mod Halves
 mod MassCells
 mod OwnOrder
 mod Members

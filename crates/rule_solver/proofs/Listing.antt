@@ -26,10 +26,6 @@ none_in x (k, l, e) = absurd (omega arith)
 pub nothing_listed : (set : NodeSet) → ((v : ℕ) → IsIn set v → ⊥) → IsListed set []
 nothing_listed set none = record { once = tt; members = λ v. ((λ h. absurd (none v h)), (λ c. absurd (none_in v c))) }
 
--- none of the nodes yet
-pub none_more : (set : NodeSet) (list : List ℕ) → IsListed set list → ListsMore [] list list set
-none_more set list is = record { listed = is; all = λ v. ((λ c. inl c), (λ h. elim h as (λ _. Contains list v) [ inl c ↦ c | inr c ↦ absurd (none_in v c) ])) }
-
 module _ (nodes before after : List ℕ) (set : NodeSet) (so : ListsMore nodes before after set) (v : ℕ) where
   -- one more, that is listed already
   pub listed_already : IsIn set v → ListsMore (nodes ++ v ∷ []) before after set

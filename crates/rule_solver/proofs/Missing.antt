@@ -1,5 +1,5 @@
 -- Totals multiplied over sets: those that a plan lacks of a scope's nodes, and those of a whole scope.
-use Rattle.std.proofs.Common.{◌≡◌, ◌∙◌, ◌↔◌, ℕ, ◌*◌, ◌<◌, Bool, true, false, not, cond, eqb, filter, List, [], ◌∷◌, Contains, length, slice_index, refl, sym, ap, subst, arith}
+use Rattle.std.proofs.Common.{◌≡◌, ◌∙◌, ◌↔◌, ℕ, ◌<◌, Bool, true, false, not, cond, eqb, filter, List, Contains, length, slice_index, refl, sym, ap, subst, arith}
 use Rattle.std.specs.List.{range_with_len}
 use Rattle.std.specs.Prelude.{option_to_list}
 use Rattle.finite_sums.specs.Sums.{nat_product_over}
@@ -22,20 +22,9 @@ use Rattle.node_sets.specs.Sets.{holds, IsIn}
 use Rattle.part_laws.specs.ScopeLaws.{HasUnitRules}
 use Rattle.plan_sums.specs.Plans.{PlanView, has, in_plan, plan_nodes, ruled_nodes}
 use Rattle.scope_sums.specs.Missing.{missing_in, missing_in_without}
+use Rattle.scope_sums.proofs.Shares.{tested_product}
 use Rattle.rule_solver.specs.Totals.{HasTotals, product_in}
 use Rattle.rule_solver.proofs.ProductLemmas.{factor_in, same_products}
-
--- a product over the members that pass a test
-pub tested_product : (f : ℕ → ℕ) (q : ℕ → Bool) (vs : List ℕ) → nat_product_over f (filter q vs) ≡ nat_product_over (λ v. cond (q v) (f v) 1) vs
-tested_product f q [] = refl
-tested_product f q (v ∷ vs) = go (q v) (tested_product f q vs)
-  where
-    one_times : (n : ℕ) → n ≡ 1 * n
-    one_times n = omega arith
-
-    go : (b : Bool) → nat_product_over f (filter q vs) ≡ nat_product_over (λ u. cond (q u) (f u) 1) vs → nat_product_over f (cond b (v ∷ filter q vs) (filter q vs)) ≡ cond b (f v) 1 * nat_product_over (λ u. cond (q u) (f u) 1) vs
-    go true h = ap (λ n. f v * n) h
-    go false h = h ∙ one_times (nat_product_over (λ u. cond (q u) (f u) 1) vs)
 
 -- the nodes that pass a test are those that are listed
 tested : (nodes : List NodeView) (q : ℕ → Bool) (v : ℕ) → v < length nodes → Contains (filter q (numbers_of nodes)) v ↔ (q v ≡ true)

@@ -1,6 +1,6 @@
 -- The plans of a decision and of a utility: their numbers fit, and their cells are numbers.
-use Rattle.std.proofs.Common.{◌≡◌, inl, inr, ℕ, ◌+◌, ◌*◌, ◌^◌, ◌<◌, ◌≤◌, max, List, [], ◌∷◌, refl, sym, subst, ℤ, pos, arith}
-use Rattle.std.proofs.Math.Nat.{mul-le-mul, mul-le-mul_left, one-le-pow}
+use Rattle.std.proofs.Common.{◌≡◌, ℕ, ◌*◌, ◌^◌, ◌<◌, ◌≤◌, max, List, refl, sym, subst, ℤ, pos, arith}
+use Rattle.std.proofs.Math.Nat.{mul-le-mul, mul-le-mul_left}
 use Rattle.cell_rings.specs.RingLaws.{gain_is_ring, mass_is_ring, mass_to_gain}
 use Rattle.cell_rings.specs.Rings.{IsRing, gain_ring, most_size}
 use Rattle.finite_sums.specs.Members.{Among}
@@ -15,6 +15,7 @@ use Rattle.plan_sums.specs.Laws.{IsCellMap}
 use Rattle.plan_sums.specs.Plans.{Cells, PlanView, gain_cells, mass_cells, gain_plan, plan_sum, row_plan, ruled_nodes, worth_plan}
 use Rattle.plan_sums.proofs.Products.{maps_plans}
 use Rattle.eliminate.specs.Results.{plan_total}
+use Rattle.scope_sums.proofs.Shares.{one_of_greatest, scale_some, tables_fit}
 
 -- ---- cells as numbers
 -- what a plan sums to in cells that are numbers is what it sums to in numbers
@@ -31,42 +32,6 @@ pub rows_number : (nodes : List NodeView) (p : List RuleView) (d : ℕ) (q : Wor
 rows_number nodes p d q = sym (maps_plans mass_cells signed_masses mass_is_ring gain_is_ring pos (record { ring = mass_to_gain; weight = λ w. refl; value = λ v. refl }) nodes p (row_plan nodes d) q)
 
 -- ---- numbers that fit
--- a utility of the list is no greater than all of them together
-pub one_of_greatest : (nodes : List NodeView) (us : List ℕ) (u : ℕ) → Among u us → greatest_abs (node_at nodes u).cells ≤ greatest_of nodes us
-one_of_greatest nodes [] u m = absurd m
-one_of_greatest nodes (v ∷ us) u (inl e) = subst (λ x. greatest_abs (node_at nodes u).cells ≤ greatest_abs (node_at nodes x).cells + greatest_of nodes us) e (first (greatest_abs (node_at nodes u).cells) (greatest_of nodes us))
-  where
-    first : (a b : ℕ) → a ≤ a + b
-    first a b = omega arith
-one_of_greatest nodes (v ∷ us) u (inr m) = let rest = one_of_greatest nodes us u m in later _ _ _ rest
-  where
-    later : (a b c : ℕ) → a ≤ c → a ≤ b + c
-    later a b c h = omega (arith, h)
-
--- twice what is within the bound is within 128 bits
-twice : (x : ℕ) → x ≤ greatest_number → 2 * x ≤ most_size
-twice x h = omega (arith, h)
-
--- what is part of a product is no more
-part_of_product : (a b m : ℕ) → 0 < b → a * b ≤ m → a ≤ m
-part_of_product a b m h k = omega (arith, mul-le-mul_left a h, k)
-
--- tables within P, and a utility within S: together within the bound
-tables_fit : (tables missing product scale utility all : ℕ) → 0 < missing → tables * missing ≤ product → 0 < scale → utility ≤ all → product * max scale all ≤ greatest_number → 2 * (tables * max 1 utility) ≤ most_size
-tables_fit tables missing product scale utility all some within one less bound =
-    let few : tables ≤ product = part_of_product tables missing product some within in
-    let value : max 1 utility ≤ max scale all = greater utility scale all one less in
-    twice (tables * max 1 utility) (chain _ _ (mul-le-mul few value) bound)
-  where
-    greater : (u s a : ℕ) → 0 < s → u ≤ a → max 1 u ≤ max s a
-    greater u s a h k = omega (arith, h, k)
-
-    chain : (a b : ℕ) → a ≤ b → b ≤ greatest_number → a ≤ greatest_number
-    chain a b h k = omega (arith, h, k)
-
-scale_some : (k : ℕ) → 0 < 10 ^ k
-scale_some k = let ten : 0 < 10 = omega arith in one-le-pow k 10 ten
-
 -- the plan of a goal fits
 pub goal_fits : (d : DiagramView) (p : List RuleView) (decision goal missing : ℕ) → 0 < missing → Among goal (goals_of d.nodes decision) → scope_bound d decision ≤ greatest_number
     → nat_product_over (weight_total d.nodes p) (ruled_nodes d.nodes (gain_plan d.nodes decision goal)) * missing ≤ scope_product d.nodes decision

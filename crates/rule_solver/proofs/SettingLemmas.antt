@@ -1,23 +1,20 @@
 -- A decision in its setting: what its plans give, and that all of it has room.
-use Rattle.std.proofs.Common.{◌≡◌, ◌∙◌, ◌↔◌, inl, inr, ℕ, ◌+◌, ◌*◌, ◌^◌, ◌<◌, ◌≤◌, max, Bool, true, false, cond, ◌&&◌, filter, List, [], ◌∷◌, Contains, length, slice_index, refl, sym, ap, subst, ℤ, pos, ◌+ℤ◌, ◌*ℤ◌, nat_abs, arith}
+use Rattle.std.proofs.Common.{◌≡◌, ◌∙◌, ◌↔◌, ℕ, ◌+◌, ◌*◌, ◌^◌, ◌<◌, ◌≤◌, max, Bool, true, false, List, [], ◌∷◌, Contains, length, slice_index, refl, sym, ap, subst, ℤ, pos, ◌+ℤ◌, ◌*ℤ◌, nat_abs, arith}
 use Rattle.std.proofs.Math.Nat.{mul-le-mul_left, one-le-pow}
 use Rattle.std.proofs.lemmas.Int.{ints}
 use Rattle.std.proofs.lemmas.List.{get_or_default}
-use Rattle.factor_core.specs.Slots.{nodes_in}
-use Rattle.finite_sums.specs.Members.{Among}
 use Rattle.finite_sums.specs.Sums.{World, InRange}
-use Rattle.finite_sums.proofs.Lists.{among_filter}
-use Rattle.finite_sums.proofs.Members.{among_from_contains, contains_from_among, filter_has}
+use Rattle.finite_sums.proofs.Members.{among_from_contains, contains_from_among}
 use Rattle.maid_model.specs.Diagrams.{greatest_number}
 use Rattle.maid_model.specs.Gains.{greatest_abs}
-use Rattle.maid_model.specs.Graph.{IsGraph, descends}
-use Rattle.maid_model.specs.Nodes.{IsDecision, agent_of, is_utility_of, node_at, numbers_of, rows_of, states_of}
+use Rattle.maid_model.specs.Graph.{IsGraph}
+use Rattle.maid_model.specs.Nodes.{IsDecision, node_at, rows_of, states_of}
 use Rattle.maid_model.specs.Parts.{leads_to}
 use Rattle.maid_model.specs.Relevance.{IsGoal}
 use Rattle.maid_model.specs.Scopes.{goals_of, greatest_of, scope_of, scope_product}
 use Rattle.maid_model.specs.Views.{NodeView, DiagramView, RuleView}
 use Rattle.node_sets.specs.declared.sets.NodeSet.{NodeSet}
-use Rattle.node_sets.specs.Sets.{IsIn, holds}
+use Rattle.node_sets.specs.Sets.{IsIn}
 use Rattle.part_laws.proofs.ScopeLaws.{goal_listed}
 use Rattle.plan_sums.specs.Plans.{PlanView, gain_cells, mass_cells, gain_plan, plan_nodes, plan_sum, row_plan}
 use Rattle.cell_rings.specs.Rings.{most_size}
@@ -38,19 +35,6 @@ bool_same false true h k = k refl
 bool_same false false h k = refl
 
 module _ (nodes : List NodeView) (graph : IsGraph nodes) (decision : ℕ) (is : IsDecision nodes decision) where
-  -- the set of the goals, listed
-  pub goals_listed : (set : NodeSet) → ((v : ℕ) → IsIn set v ↔ IsGoal nodes decision v) → nodes_in nodes (holds set) ≡ goals_of nodes decision
-  goals_listed set goals = filter_once nodes (holds set) (λ v. is_utility_of nodes (agent_of nodes decision) v && descends nodes decision v) (λ v m. bool_same (holds set v) (is_utility_of nodes (agent_of nodes decision) v && descends nodes decision v)
-      (λ e. (among_filter (λ u. is_utility_of nodes (agent_of nodes decision) u && descends nodes decision u) v (numbers_of nodes) (goal_listed nodes graph decision is v ((goals v).0 e))).1)
-      (λ e. (goals v).1 (goal_of nodes decision graph is v (filter_has (λ u. is_utility_of nodes (agent_of nodes decision) u && descends nodes decision u) v (numbers_of nodes) m e))))
-    where
-      filter_once : (nodes : List NodeView) (p q : ℕ → Bool) → ((v : ℕ) → Among v (numbers_of nodes) → p v ≡ q v) → filter p (numbers_of nodes) ≡ filter q (numbers_of nodes)
-      filter_once nodes p q h = over (numbers_of nodes) h
-        where
-          over : (vs : List ℕ) → ((v : ℕ) → Among v vs → p v ≡ q v) → filter p vs ≡ filter q vs
-          over [] h = refl
-          over (v ∷ vs) h = λ i. cond (h v (inl refl) i) (v ∷ over vs (λ u m. h u (inr m)) i) (over vs (λ u m. h u (inr m)) i)
-
   -- a goal stands in the list
   pub index_of_goal : (u : ℕ) → IsGoal nodes decision u → Contains (goals_of nodes decision) u
   index_of_goal u h = contains_from_among (goals_of nodes decision) u (goal_listed nodes graph decision is u h)

@@ -1,10 +1,8 @@
 -- What an agent's utilities give to its gain, and the gain itself.
-use Rattle.std.proofs.Common.{◌≡◌, ◌∙◌, ◌↔◌, ℕ, zero, suc, ◌+◌, ◌*◌, ◌^◌, ◌<◌, ◌≤◌, max, mul-add, Bool, true, false, cond, filter, List, [], ◌∷◌, length, slice_index_or, refl, sym, ap, subst, inl, inr, arith, ℤ, pos, ◌+ℤ◌, ◌*ℤ◌, nat_abs, FitsSigned, to_z, of_z}
-use Rattle.std.specs.Int.{w128}
+use Rattle.std.proofs.Common.{◌≡◌, ◌∙◌, ◌↔◌, ℕ, ◌+◌, ◌*◌, ◌^◌, ◌<◌, ◌≤◌, max, Bool, true, false, cond, filter, List, [], ◌∷◌, length, slice_index_or, refl, sym, ap, subst, inl, inr, arith, ℤ, pos, ◌+ℤ◌, ◌*ℤ◌, nat_abs}
 use Rattle.std.specs.List.{range_with_len}
-use Rattle.std.proofs.lemmas.Int.{ints, to_z-of_z, to_z_pos, fits_signed_from_abs}
+use Rattle.std.proofs.lemmas.Int.{ints}
 use Rattle.std.proofs.Math.Nat.{mul-le-mul_left, mul-pos, one-le-pow}
-use Rattle.cell_rings.specs.RingLaws.{abs_add}
 use Rattle.finite_sums.specs.Members.{Among}
 use Rattle.finite_sums.specs.Sums.{World, InRange, nat_product_over, nat_sum_over, sum_each}
 use Rattle.finite_sums.proofs.Lists.{among_filter}
@@ -15,7 +13,7 @@ use Rattle.maid_model.specs.Diagrams.{greatest_number}
 use Rattle.maid_model.specs.Gains.{greatest_abs, mass}
 use Rattle.maid_model.specs.Graph.{Arc, IsPath}
 use Rattle.maid_model.specs.Laws.{TestsDescent}
-use Rattle.maid_model.specs.Nodes.{IsOwnedBy, is_utility, is_utility_of, node_at, numbers_of, owners_of, owns, states_of}
+use Rattle.maid_model.specs.Nodes.{is_utility, is_utility_of, node_at, numbers_of, owners_of, owns, states_of}
 use Rattle.maid_model.specs.Parts.{leads_to}
 use Rattle.maid_model.specs.Scopes.{greatest_of, rules_in_scope_for, scope_for, scope_part_for, scope_product_for, utilities_for}
 use Rattle.maid_model.specs.Views.{NodeView, DiagramView, RuleView}
@@ -29,31 +27,15 @@ use Rattle.part_laws.proofs.PartSums.{and_both}
 use Rattle.plan_sums.specs.Plans.{gain_cells, plan_sum, worth_plan}
 use Rattle.scope_sums.specs.Laws.{AgentsScopesFitPlans, GainsOfAgentsScopes, MassOfAgentsScopes, PlanFitsAgentsScope}
 use Rattle.scope_sums.specs.Missing.{missing_in}
+use Rattle.scope_sums.proofs.Shares.{first_terms, one_of_greatest, part_of_product, passing_sizes, sum_within}
 use Rattle.rule_solver.specs.Totals.{product_in}
 use Rattle.rule_solver.specs.Worths.{HasWorths, HasWorthsFor, IsStake, share_for, scope_gain_for}
 use Rattle.rule_solver.proofs.Missing.{missing_product, scope_mass_is, totals_positive}
-use Rattle.rule_solver.proofs.PlanLemmas.{one_of_greatest, within_bound}
+use Rattle.rule_solver.proofs.PlanLemmas.{within_bound}
 use Rattle.rule_solver.proofs.ProductLemmas.{factor_in}
 use Rattle.rule_solver.proofs.WorthLemmas.{utility_among, worth_nodes}
 
--- ---- sums
--- one term more
-one_more : (f : ℕ → ℤ) (k n : ℕ) → sum_each f (range_with_len k n) +ℤ f (k + n) ≡ sum_each f (range_with_len k (suc n))
-one_more f k zero = at_zero (f k) (f (k + 0)) (ap f (zero_more k))
-  where
-    zero_more : (k : ℕ) → k + 0 ≡ k
-    zero_more k = omega arith
-
-    at_zero : (a b : ℤ) → b ≡ a → pos 0 +ℤ b ≡ a +ℤ pos 0
-    at_zero a b e = omega (arith, ints, e)
-one_more f k (suc n) = regroup (f k) (sum_each f (range_with_len (k + 1) n)) (f (k + suc n)) (f (k + 1 + n)) (ap f (next k n)) ∙ ap (λ x. f k +ℤ x) (one_more f (k + 1) n)
-  where
-    next : (k n : ℕ) → k + suc n ≡ k + 1 + n
-    next k n = omega arith
-
-    regroup : (a b c e : ℤ) → c ≡ e → (a +ℤ b) +ℤ c ≡ a +ℤ (b +ℤ e)
-    regroup a b c e h = omega (arith, ints, h)
-
+-- ---- sums and products
 -- terms that count where a test holds
 passing_terms : (a : ℕ → Bool) (f : ℕ → ℤ) (vs : List ℕ) → sum_each (λ v. cond (a v) (f v) (pos 0)) vs ≡ sum_each f (filter a vs)
 passing_terms a f [] = refl
@@ -66,64 +48,12 @@ passing_terms a f (v ∷ vs) = go (a v) (passing_terms a f vs)
     go true e = ap (λ x. f v +ℤ x) e
     go false e = nought _ _ e
 
-passing_sizes : (a : ℕ → Bool) (f : ℕ → ℕ) (vs : List ℕ) → nat_sum_over (λ v. cond (a v) (f v) 0) vs ≡ nat_sum_over f (filter a vs)
-passing_sizes a f [] = refl
-passing_sizes a f (v ∷ vs) = go (a v) (passing_sizes a f vs)
-  where
-    nought : (x y : ℕ) → x ≡ y → 0 + x ≡ y
-    nought x y e = omega (arith, e)
-
-    go : (b : Bool) → nat_sum_over (λ u. cond (a u) (f u) 0) vs ≡ nat_sum_over f (filter a vs) → cond b (f v) 0 + nat_sum_over (λ u. cond (a u) (f u) 0) vs ≡ nat_sum_over f (cond b (v ∷ filter a vs) (filter a vs))
-    go true e = ap (λ x. f v + x) e
-    go false e = nought _ _ e
-
--- the first terms are no more than all
-first_terms : (f : ℕ → ℕ) (k n m : ℕ) → n ≤ m → nat_sum_over f (range_with_len k n) ≤ nat_sum_over f (range_with_len k m)
-first_terms f k zero m h = omega arith
-first_terms f k (suc n) zero h = absurd (omega (arith, h))
-first_terms f k (suc n) (suc m) h = let rest = first_terms f (k + 1) n m (omega (arith, h)) in add _ _ _ rest
-  where
-    add : (a b c : ℕ) → b ≤ c → a + b ≤ a + c
-    add a b c l = omega (arith, l)
-
--- a sum of terms that are each within P times a number is within P times these numbers' sum
-sum_within : (f : ℕ → ℤ) (g : ℕ → ℕ) (most : ℕ) (vs : List ℕ) → ((v : ℕ) → Among v vs → nat_abs (f v) ≤ most * g v) → nat_abs (sum_each f vs) ≤ most * nat_sum_over g vs
-sum_within f g most [] h = omega arith
-sum_within f g most (v ∷ vs) h = step (nat_abs (f v +ℤ sum_each f vs)) _ _ most (g v) (nat_sum_over g vs) (abs_add (f v) (sum_each f vs)) (h v (inl refl)) (sum_within f g most vs (λ u m. h u (inr m)))
-  where
-    step : (s a b p x y : ℕ) → s ≤ a + b → a ≤ p * x → b ≤ p * y → s ≤ p * (x + y)
-    step s a b p x y h k l = omega (arith, h, k, l, mul-add p x y)
-
 -- a product of positive numbers is positive
 all_positive : (f : ℕ → ℕ) (vs : List ℕ) → ((v : ℕ) → Among v vs → 0 < f v) → 0 < nat_product_over f vs
 all_positive f [] h = omega arith
 all_positive f (v ∷ vs) h = mul-pos (h v (inl refl)) (all_positive f vs (λ u m. h u (inr m)))
 
--- ---- numbers in 128 bits
-pub fits_number : (z : ℤ) → nat_abs z ≤ greatest_number → FitsSigned w128 z
-fits_number z h = fits_signed_from_abs w128 z (omega (arith, h))
-
-pub fits_natural : (n : ℕ) → n ≤ greatest_number → to_z w128 n ≡ pos n
-fits_natural n h = to_z_pos w128 n (omega (arith, h))
-
--- a number times a natural
-pub product_value : (z : ℤ) (n m : ℕ) → FitsSigned w128 z → n ≡ m → m ≤ greatest_number → to_z w128 (of_z w128 z) *ℤ to_z w128 n ≡ z *ℤ pos m
-product_value z n m f e h = λ i. to_z-of_z w128 z f i *ℤ (ap (to_z w128) e ∙ fits_natural m h) i
-
--- a sum and its next term
-pub sum_next : (f : ℕ → ℤ) (v : ℕ) (sum term : ℤ) → sum ≡ sum_each f (range_with_len 0 v) → FitsSigned w128 term → term ≡ f v → sum +ℤ to_z w128 (of_z w128 term) ≡ sum_each f (range_with_len 0 (v + 1))
-sum_next f v sum term e fits h = (λ i. e i +ℤ (to_z-of_z w128 term fits ∙ h ∙ ap f (from_zero v)) i) ∙ one_more f 0 v ∙ ap (λ n. sum_each f (range_with_len 0 n)) (next v)
-  where
-    from_zero : (v : ℕ) → v ≡ 0 + v
-    from_zero v = omega arith
-
-    next : (v : ℕ) → suc v ≡ v + 1
-    next v = omega arith
-
--- what is part of a product is no more
-part_of : (a b m : ℕ) → 0 < b → a * b ≤ m → a ≤ m
-part_of a b m h k = omega (arith, mul-le-mul_left a h, k)
-
+-- ---- worths
 -- the worths of all utilities are those of the agent's
 pub worths_for : (nodes : List NodeView) (p : List RuleView) (agent : ℕ) (worths : List ℤ) → HasWorths nodes p worths → HasWorthsFor nodes p agent worths
 worths_for nodes p agent worths h = record {
@@ -157,14 +87,8 @@ module _ (d : DiagramView) (p : List RuleView) (agent : ℕ) (totals : List ℕ)
       missing_product d.nodes p totals is.has_totals (leads_to d.nodes (utilities_for d.nodes agent)) (worth_plan u) scope planned left is.is_scope (worth_nodes d.nodes is.is_diagram.graph tested u own ancestors planned o a l) r
 
   -- another node gives nothing
-  pub gives_none : (u : ℕ) → u < length d.nodes → (IsOwnedBy d.nodes u agent → ⊥) → pos 0 ≡ given_at u
-  gives_none u l n = go (is_utility_of d.nodes agent u) refl
-    where
-      go : (b : Bool) → is_utility_of d.nodes agent u ≡ b → pos 0 ≡ cond b (worth_times u) (pos 0)
-      go false e = refl
-      go true e =
-          let t = and_both (is_utility (node_at d.nodes u).kind) (owns d.nodes agent u) e in
-          absurd (n (record { within = l; kind = inr (kind_of_utility (node_at d.nodes u).kind t.0); owner = (any_is agent (owners_of d.nodes u)).0 t.1 }))
+  pub gives_none : (u : ℕ) → is_utility_of d.nodes agent u ≡ false → pos 0 ≡ given_at u
+  gives_none u e = ap (λ b. cond b (worth_times u) (pos 0)) (sym e)
 
   pub gives : (u : ℕ) → is_utility_of d.nodes agent u ≡ true → worth_times u ≡ given_at u
   gives u e = ap (λ b. cond b (worth_times u) (pos 0)) (sym e)
@@ -177,7 +101,7 @@ module _ (d : DiagramView) (p : List RuleView) (agent : ℕ) (totals : List ℕ)
       greater s a h = omega (arith, h)
 
   pub product_small : scope_product_for d.nodes agent ≤ greatest_number
-  product_small = part_of (scope_product_for d.nodes agent) (max (10 ^ d.decimals) (greatest_of d.nodes (utilities_for d.nodes agent))) greatest_number scale_max is.bound
+  product_small = part_of_product (scope_product_for d.nodes agent) (max (10 ^ d.decimals) (greatest_of d.nodes (utilities_for d.nodes agent))) greatest_number scale_max is.bound
 
   all_small : (z : ℤ) (a : ℕ) → nat_abs z ≤ scope_product_for d.nodes agent * a → a ≤ greatest_of d.nodes (utilities_for d.nodes agent) → nat_abs z ≤ greatest_number
   all_small z a h l =

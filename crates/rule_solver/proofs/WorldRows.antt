@@ -1,6 +1,5 @@
 -- Worlds as lists of states, and the rows that they pick.
-use Rattle.std.proofs.Common.{◌≡◌, ◌∙◌, ℕ, zero, suc, ◌+◌, ◌*◌, ◌<◌, ◌≤◌, List, [], ◌∷◌, length, get_or, set, refl, sym, subst, slice_index, arith}
-use Rattle.std.proofs.Math.Nat.{mul-le-mul_right, mul_assoc}
+use Rattle.std.proofs.Common.{◌≡◌, ◌∙◌, ℕ, ◌<◌, ◌≤◌, List, length, set, sym, subst, slice_index, arith}
 use Rattle.std.proofs.Math.Decide.{ℕ_discrete, dec_lt}
 use Rattle.std.proofs.lemmas.List.{length-map, length-set, get_or_past, get_or-set_same, get_or-set_other}
 use Rattle.finite_sums.specs.Sums.{World, InRange}
@@ -8,12 +7,8 @@ use Rattle.maid_model.specs.Nodes.{no_node, states_of, counts_of, rows_under}
 use Rattle.maid_model.specs.Tables.{row_from}
 use Rattle.maid_model.specs.Views.{NodeView}
 use Rattle.maid_model.specs.Worlds.{IsWorld, world_of}
-
--- a node's count in the list of all counts
-pub counts_at : (nodes : List NodeView) (v : ℕ) → v < length nodes → states_of nodes v ≡ get_or (counts_of nodes) v 0
-counts_at [] v h = absurd (omega arith)
-counts_at (n ∷ ns) zero h = refl
-counts_at (n ∷ ns) (suc v) h = counts_at ns v (omega arith)
+use Rattle.maid_model.proofs.Tables.{row_from_below}
+use Rattle.maid_model.proofs.Views.{counts_at}
 
 -- a world has a state for each node
 pub world_length : (nodes : List NodeView) (xs : List ℕ) → IsWorld (counts_of nodes) xs → length xs ≡ length nodes
@@ -56,17 +51,6 @@ world_set nodes xs v s l h w = record { len = length-set xs v s ∙ w.len; each 
         subst (λ x. slice_index (set xs v s) x < slice_index (counts_of nodes) x) (sym e)
         (subst (λ x. x < slice_index (counts_of nodes) v) (sym (get_or-set_same xs v s 0 inside)) (subst (λ x. s < x) (counts_at nodes v l) h))
     go u (no n) k = subst (λ x. x < slice_index (counts_of nodes) u) (sym (get_or-set_other xs v u s 0 n)) (w.each u k)
-
--- a row and a state in it are below the whole
-step_below : (row r c x : ℕ) → row < r → x < c → row * c + x < r * c
-step_below row r c x h k = omega (arith, mul-le-mul_right c h)
-
--- by induction over the nodes
-pub row_from_below : (count : ℕ → ℕ) (w : World) → InRange count w → (us : List ℕ) (row r : ℕ) → row < r → row_from count w row us < r * rows_under count us
-row_from_below count w i [] row r h = omega arith
-row_from_below count w i (u ∷ us) row r h =
-    subst (λ x. row_from count w (row * count u + w u) us < x) (mul_assoc r (count u) (rows_under count us))
-    (row_from_below count w i us (row * count u + w u) (r * count u) (step_below row r (count u) (w u) h (i.state u)))
 
 -- a row is one of so many
 pub row_below : (count : ℕ → ℕ) (w : World) → InRange count w → (us : List ℕ) → row_from count w 0 us < rows_under count us

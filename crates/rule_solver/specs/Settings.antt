@@ -11,7 +11,7 @@ use Rattle.size_precheck.specs.declared.decisions.DecisionPlans.{DecisionPlans}
 use Rattle.size_precheck.specs.Sizes.{ArePlansOf, ArePlansOfGoals, IsPlanned, SizedPlan}
 use Rattle.rule_solver.specs.declared.decision_sums.RowSums.{RowSums}
 use Rattle.rule_solver.specs.declared.decision_sums.Setting.{Setting}
-use Rattle.rule_solver.specs.declared.joint_goals.Joint.{Joint}
+use Rattle.rule_solver.specs.declared.joint_goals.JointSums.{JointSums}
 use Rattle.rule_solver.specs.declared.spaces.Workspaces.{Workspaces}
 use Rattle.rule_solver.specs.Rooms.{AreReadyFor, AreReadyForDecision, AreReadyForGoals, IsReadyFor}
 use Rattle.rule_solver.specs.Sums.{AddsGoals, AreRowSums, HasGoals, HasMasses, HasRoomForGoals, IsSetting, KeepsRoom}
@@ -96,7 +96,7 @@ abbrev pub AreReadyForDecisionIn : Setting → Workspaces → Type 0
 AreReadyForDecisionIn s spaces = AreReadyForDecision s.diagram.now.nodes s.decision spaces
 
 -- this is what the joint sums of the decision's goals share
-abbrev pub IsJointIn : Setting → Joint → Type 0
+abbrev pub IsJointIn : Setting → JointSums → Type 0
 IsJointIn s joint = IsJoint s.diagram.now.nodes s.base.now s.decision joint
 
 -- ---- its gains and masses

@@ -10,7 +10,7 @@ use Rattle.node_sets.specs.declared.sets.NodeSet.{NodeSet}
 use Rattle.node_sets.specs.Sets.{IsIn}
 use Rattle.plan_sums.specs.Sizes.{value_bound}
 use Rattle.size_precheck.specs.Sizes.{SizedPlan}
-use Rattle.rule_solver.specs.declared.joint_goals.Joint.{Joint}
+use Rattle.rule_solver.specs.declared.joint_goals.JointSums.{JointSums}
 
 -- the number of a plan's utility, and 0 where it has none, which plans of goals never lack
 abbrev pub utility_of_plan : Option ℕ → ℕ
@@ -38,7 +38,7 @@ IsStepOf plans v = (plan : SizedPlan) × Contains plans plan × Contains plan.st
 -- what the joint sums of a decision's goals share: the nodes with their own tables, an order of the other nodes, and
 -- the product of those tables' totals
 pub record IsJoint
-    (nodes : List NodeView) (p : List RuleView) (d : ℕ) (joint : Joint) : Type 0 where
+    (nodes : List NodeView) (p : List RuleView) (d : ℕ) (joint : JointSums) : Type 0 where
   pub ruled : joint.ruled.items ≡ joint_ruled nodes d
   pub order : IsJointOrder nodes d joint.steps.items
   pub total : joint.total ≡ nat_product_over (weight_total nodes p) (joint_ruled nodes d)

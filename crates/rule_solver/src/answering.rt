@@ -15,7 +15,6 @@ use crate::bases::turn_base;
 use crate::decision_sums::row_sums_by;
 use crate::rows::answer_rows;
 use crate::spaces::Workspaces;
-use crate::worths::scale;
 use maid_model::{Answer, Diagram, Profile, Row};
 use node_sets::NodeSet;
 use part_laws::{parts_decide, scopes_are_parts};
@@ -46,7 +45,7 @@ fn answer_decision(
     parts_decide();
     let states = diagram.states(decision);
     let sums = row_sums_by(alloc, diagram, base, decision, plans, spaces)?;
-    answer_rows(alloc, &sums.gains, &sums.masses, states, scale(diagram))
+    answer_rows(alloc, &sums.gains, &sums.masses, states, diagram.scale())
 }
 
 /// What is answered at each decision of the order of solving, each against its base in the rules answered before it,

@@ -31,7 +31,7 @@ const MOST_SIZE: u128 = i128::MAX as u128;
 
 /// What the joint sums of a decision's goals share.
 #[derive(Drop)]
-struct Joint {
+struct JointSums {
     /// The nodes whose own tables are multiplied: the chance and decision nodes of the scope, but the decision.
     ruled: Vec<usize>,
     /// Those of them that are summed out, in their order.
@@ -115,10 +115,7 @@ fn with_goal(diagram: &Diagram, bound: u128, goal: usize) -> Option<u128>
 fn goal_in(plan: &Plan) -> usize
     ensures { result ≡ goal_in plan.now }
 {
-    match plan.utility() {
-        Some(u) => u,
-        None => 0,
-    }
+    plan.utility().unwrap_or(0)
 }
 
 /// The utilities of the plans: of the plans of a decision's goals its goals.
@@ -167,14 +164,14 @@ fn most_work(plans: &[Plan]) -> Option<u64>
     (largest <= most as u128).then_some(most)
 }
 
-impl Joint {
+impl JointSums {
     /// What the joint sums of these goals share, all goals of the decision, which have these plans.
     fn new(
         alloc: Global,
         setting: &Setting,
         goals: &[usize],
         plans: &[Plan],
-    ) -> Result<Joint, AllocError>
+    ) -> Result<JointSums, AllocError>
         requires setting { HoldsSetting setting.now }
         requires goals { goals.now ≡ goals_in setting.now }
         requires some { 0 < length goals.now }
@@ -184,7 +181,7 @@ impl Joint {
         let mut left_out = NodeSet::of(setting.decision);
         left_out.insert_all(goals);
         let ruled = setting.scope.difference(&left_out);
-        Ok(Joint {
+        Ok(JointSums {
             ruled: list_scope(alloc, setting.diagram, &ruled)?,
             steps: list_steps(alloc, plans)?,
             total: product_in(setting.totals, &ruled),
@@ -325,7 +322,7 @@ pub(crate) fn add_together(
     if !may_share(plans) {
         return Ok(0);
     }
-    let joint = Joint::new(alloc, setting, goals, plans)?;
+    let joint = JointSums::new(alloc, setting, goals, plans)?;
     let mut done = 0;
     'parts: while done < goals.len() {
         let rest = behind(goals, done);

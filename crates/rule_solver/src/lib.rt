@@ -20,7 +20,6 @@ mod answering;
 mod bases;
 mod decision_sums;
 mod faults;
-mod fractions;
 mod joint_goals;
 mod keeping;
 mod laws;

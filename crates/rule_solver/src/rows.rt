@@ -5,8 +5,7 @@ ghost use Rattle.maid_model.specs.Answers.{IsFirstBest, IsReduced};
 ghost use Rattle.maid_model.specs.Diagrams.{greatest_number};
 ghost use Rattle.rule_solver.specs.Rows.{AnswersByGains, AreGainsOfRow, FitNumbers, FitScaled, AnswersGains, AnswersInList};
 
-use crate::fractions::fraction;
-use maid_model::Row;
+use maid_model::{Ratio, Row};
 use std::alloc::{AllocError, Global};
 
 /// The first place of the greatest number.
@@ -42,7 +41,7 @@ fn answer_row(gains: &[i128], mass: u128, scale: u128) -> Row
     let choice = first_best(gains);
     Row {
         choice,
-        worth: Some(fraction(gains[choice], mass * scale)),
+        worth: Some(Ratio::reduced(gains[choice], mass * scale)),
     }
 }
 

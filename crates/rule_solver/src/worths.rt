@@ -1,6 +1,6 @@
 //! What a plan is worth to each agent, as reduced fractions.
 
-ghost use Rattle.std.specs.Prelude.{◌≡◌, ◌<◌, ◌≤◌, ◌*◌, ◌^◌, true, IfOk, OnOk, length, nat_abs};
+ghost use Rattle.std.specs.Prelude.{◌≡◌, ◌<◌, ◌≤◌, ◌*◌, true, IfOk, OnOk, length, nat_abs};
 ghost use Rattle.eliminate.specs.Results.{plan_total};
 ghost use Rattle.maid_model.specs.declared.limits.TheConstants.{MOST_PLAN_CELLS};
 ghost use Rattle.maid_model.specs.declared.diagrams.Kind.TheVariants.{Utility};
@@ -16,7 +16,6 @@ ghost use Rattle.rule_solver.specs.Rooms.{AreBothReadyForWorths, AreReadyFor, Ar
 ghost use Rattle.rule_solver.specs.Totals.{HasTotals};
 ghost use Rattle.rule_solver.specs.Worths.{HasWorths, HoldsStake, IsExpectedTo, IsWorth, gain_to, share_of};
 
-use crate::fractions::fraction;
 use crate::numbers::Number;
 use crate::spaces::{Workspaces, most_cells};
 use crate::totals::{list_totals, product_in};
@@ -31,14 +30,6 @@ use scope_sums::{plans_keep_scopes, plans_sum_scopes};
 use size_precheck::{Plan, greedy_orders, plan_worths};
 use std::alloc::{AllocError, Global};
 use weight_scale::agent_scope;
-
-/// By what the utilities are scaled: ten to the power of the diagram's decimals.
-pub(crate) fn scale(diagram: &Diagram) -> u128
-    ensures scale { result ≡ 10 ^ diagram.now.decimals }
-    ensures some { 0 < result }
-{
-    10u128.pow(diagram.decimals())
-}
 
 /// Runs a plan that keeps no node, in cells that hold all of its numbers, and gives what it sums to.
 fn run_worth<C: Number>(
@@ -161,10 +152,10 @@ impl<'a> Stake<'a> {
         requires within { v < length self.now.diagram.now.nodes }
         ensures { result ≡ share_of self.now v }
     {
-        let owned = self.diagram.owns(self.agent, v);
-        match self.diagram.kind(v) {
-            Kind::Utility if owned => self.given(v),
-            _ => 0,
+        if self.diagram.is_utility_of(self.agent, v) {
+            self.given(v)
+        } else {
+            0
         }
     }
 
@@ -193,7 +184,7 @@ impl<'a> Stake<'a> {
         parts_decide();
         plans_sum_scopes();
         let mass = product_in(self.totals, &self.scope);
-        fraction(self.gain(), mass * scale(self.diagram))
+        Ratio::reduced(self.gain(), mass * self.diagram.scale())
     }
 }
 

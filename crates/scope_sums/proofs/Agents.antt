@@ -31,7 +31,7 @@ use Rattle.part_laws.proofs.ScopeBounds.{chances_positive}
 use Rattle.part_laws.proofs.ScopeLaws.{scope_for_closed, agents_scopes_law, utilities_inside, utility_listed}
 use Rattle.plan_sums.specs.Laws.{missing_total, worth_part}
 use Rattle.plan_sums.specs.Plans.{gain_cells, both_cells, in_plan, eliminated_nodes, ruled_nodes, first_tables, plan_sum, worth_plan}
-use Rattle.plan_sums.proofs.Added.{parts}
+use Rattle.plan_sums.proofs.Added.{parts, sum_each_mul}
 use Rattle.plan_sums.proofs.Parts.{worth_is}
 use Rattle.plan_sums.proofs.Products.{gain_first, both_first_g, gain_of_over}
 use Rattle.plan_sums.proofs.Results.{results_keep_bounds}
@@ -39,7 +39,7 @@ use Rattle.scope_sums.specs.Missing.{missing_in}
 use Rattle.scope_sums.specs.Laws.{GainsOfAgentsScopes, MassOfAgentsScopes, AgentsScopesFitPlans}
 use Rattle.scope_sums.proofs.Lacking.{plan_inside, all_nodes}
 use Rattle.scope_sums.proofs.Kept.{second_fits, taken_off, tables_fit}
-use Rattle.scope_sums.proofs.Summed.{sum_each_mul, cancel_factor, outward, product_at, missing_is}
+use Rattle.scope_sums.proofs.Summed.{cancel_factor, outward, product_at, missing_is}
 
 -- terms that count where a test holds
 passing_terms : (a : ℕ → Bool) (f : ℕ → ℤ) (vs : List ℕ) → sum_each (λ v. cond (a v) (f v) (pos 0)) vs ≡ sum_each f (filter a vs)
@@ -62,7 +62,7 @@ cancel_product l a b h e = equal a b (le_of_mul-le-mul_left (le_of_eq e) h) (le_
     equal a b h k = omega arith
 
 -- the factor of a table, and of a rule that adds up to 1
-unit_factor : (k : Kind) (chance rule : ℕ) → (k ≡ Decision → rule ≡ 1) → total_by k chance rule ≡ chance_factor_by k chance
+pub unit_factor : (k : Kind) (chance rule : ℕ) → (k ≡ Decision → rule ≡ 1) → total_by k chance rule ≡ chance_factor_by k chance
 unit_factor Chance chance rule h = refl
 unit_factor Decision chance rule h = h refl
 unit_factor Utility chance rule h = refl

@@ -3,3 +3,4 @@ pub mod Summed
 pub mod Asked
 pub mod Kept
 pub mod Agents
+pub mod Shares

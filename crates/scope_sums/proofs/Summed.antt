@@ -1,5 +1,5 @@
 -- The sums of a scope's part are those of its plans: both are the whole's, but for the totals left out.
-use Rattle.std.proofs.Common.{◌≡◌, ◌∙◌, ℕ, ◌*◌, ◌<◌, Bool, true, false, cond, ◌&&◌, eqb, filter, List, [], ◌∷◌, refl, sym, ap, subst, inl, inr, arith, Contains, Some, None, ℤ, pos, ◌+ℤ◌, ◌*ℤ◌}
+use Rattle.std.proofs.Common.{◌≡◌, ◌∙◌, ℕ, ◌*◌, ◌<◌, Bool, true, false, cond, ◌&&◌, eqb, filter, List, [], ◌∷◌, refl, sym, ap, subst, inl, inr, arith, Contains, Some, None, ℤ, pos, ◌*ℤ◌}
 use Rattle.std.proofs.lemmas.Int.{ints}
 use Rattle.maid_model.specs.Gains.{gain_at, mass_at}
 use Rattle.maid_model.specs.Graph.{IsGraph, descends}
@@ -14,7 +14,7 @@ use Rattle.maid_model.proofs.Leaves.{sum_each_cong}
 use Rattle.maid_model.proofs.Setting.{HasTables}
 use Rattle.finite_sums.specs.Members.{Among}
 use Rattle.finite_sums.specs.Sums.{World, InRange, sum_each, nat_product_over}
-use Rattle.finite_sums.proofs.Ints.{mul_zero, mul_add, mul_comm, mul_left_comm}
+use Rattle.finite_sums.proofs.Ints.{mul_comm, mul_left_comm}
 use Rattle.finite_sums.proofs.Lists.{among_filter}
 use Rattle.finite_sums.proofs.Members.{any_is}
 use Rattle.maid_laws.proofs.Booleans.{eqb_no}
@@ -29,16 +29,11 @@ use Rattle.part_laws.proofs.PartSums.{sum_each-some, is_out, and_both}
 use Rattle.part_laws.proofs.ScopeLaws.{scope_closed, scopes_law}
 use Rattle.plan_sums.specs.Laws.{missing_total, missing_without, gain_part}
 use Rattle.plan_sums.specs.Plans.{PlanView, mass_cells, gain_cells, in_plan, plan_sum, row_plan, gain_plan}
-use Rattle.plan_sums.proofs.Added.{parts}
+use Rattle.plan_sums.proofs.Added.{parts, sum_each_mul}
 use Rattle.plan_sums.proofs.Parts.{row_is, gain_is}
 use Rattle.scope_sums.specs.Missing.{missing_in, missing_in_without}
 use Rattle.scope_sums.specs.Laws.{SumsOfScopes}
 use Rattle.scope_sums.proofs.Lacking.{plan_inside, lacking_nodes_are}
-
--- a factor of all terms
-pub sum_each_mul : (a : ℤ) (f : ℕ → ℤ) (us : List ℕ) → a *ℤ sum_each f us ≡ sum_each (λ u. a *ℤ f u) us
-sum_each_mul a f [] = mul_zero a
-sum_each_mul a f (u ∷ us) = mul_add a (f u) (sum_each f us) ∙ ap (λ y. (a *ℤ f u) +ℤ y) (sum_each_mul a f us)
 
 -- a positive factor of two equal numbers
 pub cancel_factor : (c : ℕ) (a b : ℤ) → 0 < c → pos c *ℤ a ≡ pos c *ℤ b → a ≡ b

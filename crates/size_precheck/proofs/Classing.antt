@@ -134,26 +134,6 @@ module _ (counts : List ℕ) (waits fewer : ℕ → Bool) (v cells : ℕ) (less 
             (λ h. (are.nodes i l x).1 (more x h.0, h.1)),
           )
 
-  -- v has no class
-  pub past_all : (classes : List Class) (place : ℕ) → length classes ≤ place → ((i : ℕ) → i < place → (class_at classes i).cells < cells) → AreClasses counts waits classes → AreClasses counts fewer classes
-  past_all classes place end before are = record {
-    rising = are.rising;
-    nodes = λ i l x. (
-      (λ m. let h = (are.nodes i l x).0 m in (fewer_too x (absent x h.0) h.0, h.1)),
-      (λ h. (are.nodes i l x).1 (more x h.0, h.1)),
-    );
-    all = λ x m. are.all x (more x m);
-  }
-    where
-      absent : (x : ℕ) → waits x ≡ true → x ≡ v → ⊥
-      absent x m e =
-          let a = are.all x m in
-          let l = a.1 in
-          let b = before a.0 (omega arith) in
-          let k = a.2 in
-          let f = ap (λ y. slice_index counts y) e in
-          absurd (omega (arith, counted))
-
   -- v leaves, and its class with it
   pub dropped : (classes classes' : List Class) (place : ℕ) → classes' ≡ remove classes place → place < length classes → ((i : ℕ) → i < place → (class_at classes i).cells < cells)
       → cells ≤ (class_at classes place).cells → ((x : ℕ) → IsIn (class_at classes place).nodes x → x ≡ v)

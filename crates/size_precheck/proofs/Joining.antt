@@ -122,25 +122,6 @@ ruled_more nodes v plain x = (
   ],
 )
 
--- a utility more is none with a rule
-pub ruled_past : (nodes : List NodeView) (v y : ℕ) (joint : Joint) → (node_at nodes v).kind ≡ Utility → IsJointAmong nodes (IsRuledBelow nodes v) y joint → IsJointAmong nodes (IsRuledBelow nodes (v + 1)) y joint
-ruled_past nodes v y joint kind joined = record {
-  tables = λ x. (
-    (λ m. let h = (joined.tables x).0 m in (more x h.0, h.1)),
-    (λ h. (joined.tables x).1 (less x h.0, h.1)),
-  );
-  set = λ u. (
-    (λ m. let k = (joined.set u).0 m in (k.0, more k.0 k.1, k.2, k.3)),
-    (λ h. (joined.set u).1 (h.0, less h.0 h.1, h.2, h.3)),
-  );
-}
-  where
-    more : (x : ℕ) → IsRuledBelow nodes v x → IsRuledBelow nodes (v + 1) x
-    more x h = (let l = h.0 in omega arith, h.1)
-
-    less : (x : ℕ) → IsRuledBelow nodes (v + 1) x → IsRuledBelow nodes v x
-    less x h = elim (before_or_at x v h.0) as (λ _. IsRuledBelow nodes v x) [ inl l ↦ (l, h.1) | inr e ↦ absurd (h.1 (subst (λ z. (node_at nodes z).kind ≡ Utility) (sym e) kind)) ]
-
 -- what putting a node's table makes of each joint
 pub family_put : (nodes : List NodeView) (v : ℕ) (table : Table) (none : NodeSet) (joints joints' : List Joint) → ((node_at nodes v).kind ≢ Utility) → ((x : ℕ) → IsIn none x → ⊥) → table.tag ≡ v
     → ((u : ℕ) → IsIn table.scope u ↔ IsOfFamily nodes v u)

@@ -1,5 +1,5 @@
 -- Plans that were made and kept, place by place.
-use Rattle.std.proofs.Common.{◌≡◌, ◌∙◌, ◌↔◌, ℕ, zero, suc, ◌+◌, ◌<◌, ◌≤◌, ◌^◌, max, Bool, true, false, cond, filter, List, [], ◌∷◌, ◌++◌, map, length, take, get_or, refl, sym, ap, subst, arith}
+use Rattle.std.proofs.Common.{◌≡◌, ◌∙◌, ◌↔◌, ℕ, zero, suc, ◌+◌, ◌<◌, ◌≤◌, max, Bool, true, false, cond, filter, List, [], ◌∷◌, ◌++◌, map, length, take, get_or, refl, sym, ap, subst, arith}
 use Rattle.std.specs.Prelude.{flat_map}
 use Rattle.std.specs.List.{AllZip, range_with_len}
 use Rattle.std.proofs.lemmas.List.{take_more}
@@ -19,7 +19,7 @@ use Rattle.size_precheck.specs.Joints.{SomeOf, IsListOf}
 use Rattle.size_precheck.specs.Runs.{Includes}
 use Rattle.size_precheck.specs.Sizes.{SizedPlan, IsPlanned, ArePlansOf, goal_list, is_goal}
 use Rattle.size_precheck.proofs.Lists.{each_at, some_at}
-use Rattle.size_precheck.proofs.Measuring.{filter_more, goal_tested, include_made, include_none, include_row, include_list, include_then}
+use Rattle.size_precheck.proofs.Measuring.{filter_more, goal_tested, include_made, include_row, include_list, include_then}
 use Rattle.size_precheck.proofs.Planning.{rising_filter, rising_range}
 use Rattle.size_precheck.proofs.Putting.{contains_some, rising_same, some_contains}
 use Rattle.size_precheck.proofs.Starting.{in_numbers}
@@ -56,10 +56,6 @@ zip_failed {C = C} R p f n ys e z =
     append_none [] = refl
     append_none (x ∷ xs) = ap (λ (l : List C). x ∷ l) (append_none xs)
 
-pub take_none : {X : Type 0} (xs : List X) → take 0 xs ≡ []
-take_none [] = refl
-take_none (x ∷ xs) = refl
-
 pub take_whole : {X : Type 0} (xs : List X) (k : ℕ) → length xs ≤ k → take k xs ≡ xs
 take_whole [] zero h = refl
 take_whole [] (suc k) h = refl
@@ -67,8 +63,6 @@ take_whole (x ∷ xs) zero h = absurd (omega arith)
 take_whole {X = X} (x ∷ xs) (suc k) h = ap (λ (l : List X). x ∷ l) (take_whole xs k (omega arith))
 
 -- ---- counted in
-pub include_first : (nodes : List NodeView) (f : List ℕ → List PlanView) (order : List ℕ) (size : Size) → f [] ≡ [] → size.work ≤ 10 ^ 18 → Includes nodes (f (take 0 order)) size size
-include_first nodes f order size e few = subst (λ l. Includes nodes l size size) (sym (ap f (take_none order) ∙ e)) (include_none nodes size few)
 
 -- one plan more of a list
 pub include_plan : (nodes : List NodeView) (asked : List PlanView) (plans : List SizedPlan) (i : ℕ) (plan : SizedPlan) (a b size c : Size) → AllZip (IsPlanned nodes) asked plans → i < length plans → plan ≡ get_or plans i plan → size ≡ plan.size

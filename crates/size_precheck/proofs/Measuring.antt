@@ -13,7 +13,6 @@ use Rattle.maid_model.specs.Laws.{TestsDescent}
 use Rattle.maid_model.specs.Nodes.{IsDecision, agent_of, node_at, owners_of, parents_of, is_utility, is_utility_of}
 use Rattle.maid_model.specs.Relevance.{IsGoal}
 use Rattle.maid_model.specs.Views.{NodeView}
-use Rattle.finite_sums.proofs.Counts.{true_or_false}
 use Rattle.finite_sums.proofs.Members.{among_from_contains, any_is, contains_from_among}
 use Rattle.plan_sums.specs.Plans.{PlanView, row_plan, gain_plan, worth_plan}
 use Rattle.ring_sums.proofs.Same.{map_append}
@@ -21,7 +20,7 @@ use Rattle.ring_sums.proofs.Each.{zip_append}
 use Rattle.size_precheck.specs.declared.sizes.Size.{Size}
 use Rattle.maid_model.specs.Bounds.{stopped}
 use Rattle.size_precheck.specs.Runs.{Includes}
-use Rattle.size_precheck.specs.Sizes.{CanBePlanned, SizedPlan, IsMade, HasSize, IsSizeOfAll, greatest, is_goal}
+use Rattle.size_precheck.specs.Sizes.{CanBePlanned, SizedPlan, IsMade, HasSize, IsSizeOfAll, greatest}
 use Rattle.size_precheck.proofs.Counting.{stop_part, stopped_few}
 use Rattle.size_precheck.proofs.Somewhere.{and_left, and_right, and_both}
 
@@ -35,9 +34,6 @@ greatest_append (x ∷ xs) ys = let a = greatest_append xs ys in ap (λ n. max x
 
 pub has_size : (nodes : List NodeView) (asked : PlanView) (made : SizedPlan) → IsMade nodes asked made → HasSize nodes asked made.size
 has_size nodes asked made h = (made.steps, record { plan = refl; greedy = h.greedy; order = h.order; cells = h.cells; work = h.work })
-
-pub made_few : (nodes : List NodeView) (asked : PlanView) (made : SizedPlan) → IsMade nodes asked made → made.size.work ≤ 10 ^ 18
-made_few nodes asked made h = subst (λ (n : ℕ). n ≤ 10 ^ 18) (sym h.work) (stopped_few _)
 
 pub include_none : (nodes : List NodeView) (size : Size) → size.work ≤ 10 ^ 18 → Includes nodes [] size size
 include_none nodes size few = record { sizes = []; each = tt; cells = omega arith; work = omega arith }
@@ -190,15 +186,6 @@ goal_tested nodes d u tested within = (
     is_kind u e = ap is_utility e
 
 -- ---- where the test is passed, and where it is not
-pub include_passed : (nodes : List NodeView) (p : ℕ → Bool) (f : ℕ → PlanView) (u : ℕ) (before after : Size) → p u ≡ true → Includes nodes (f u ∷ []) before after → Includes nodes (map f (filter p (u ∷ []))) before after
-include_passed nodes p f u before after e h = subst (λ (b : Bool). Includes nodes (map f (cond b (u ∷ []) [])) before after) (sym e) h
-
-pub include_failed : (nodes : List NodeView) (p : ℕ → Bool) (f : ℕ → PlanView) (u : ℕ) (size : Size) → size.work ≤ 10 ^ 18 → p u ≡ false → Includes nodes (map f (filter p (u ∷ []))) size size
-include_failed nodes p f u size few e = subst (λ (b : Bool). Includes nodes (map f (cond b (u ∷ []) [])) size size) (sym e) (include_none nodes size few)
-
-pub include_more : (nodes : List NodeView) (p : ℕ → Bool) (f : ℕ → PlanView) (n : ℕ) (a b c : Size) → Includes nodes (map f (filter p (range_with_len 0 n))) a b → Includes nodes (map f (filter p (n ∷ []))) b c
-    → Includes nodes (map f (filter p (range_with_len 0 (n + 1)))) a c
-include_more nodes p f n a b c h k = subst (λ (xs : List PlanView). Includes nodes xs a c) (sym (filter_more p f n)) (include_then nodes _ _ a b c h k)
 
 pub include_row : (nodes : List NodeView) (f : ℕ → PlanView) (order : List ℕ) (i d : ℕ) (a b c : Size) → i < length order → d ≡ get_or order i 0 → Includes nodes (map f (take i order)) a b → Includes nodes (f d ∷ []) b c
     → Includes nodes (map f (take (i + 1) order)) a c
@@ -217,9 +204,6 @@ include_list nodes f order i d a b c within is h k =
 -- a plan that keeps these nodes alone
 abbrev pub keeps : List ℕ → PlanView
 keeps list = record { keep = list; without = None; utility = None }
-
-pub not_goal : (nodes : List NodeView) (d u : ℕ) → TestsDescent → u < length nodes → (IsGoal nodes d u → ⊥) → is_goal nodes d u ≡ false
-not_goal nodes d u tested within n = elim (true_or_false (is_goal nodes d u)) as (λ _. is_goal nodes d u ≡ false) [ inl e ↦ absurd (n ((goal_tested nodes d u tested within).1 e)) | inr e ↦ e ]
 
 -- what holds anyhow holds where there is a value
 pub on_ok : {T E P : Type 0} (r : Result T E) → P → OnOk r P

@@ -19,6 +19,7 @@ use Rattle.size_precheck.specs.declared.joints.Joint.{Joint}
 use Rattle.size_precheck.specs.declared.joints.Table.{Table}
 use Rattle.size_precheck.specs.declared.simulation.Start.{Start}
 use Rattle.maid_model.specs.Bounds.{stopped}
+use Rattle.maid_model.proofs.Found.{eqb_yes}
 use Rattle.size_precheck.specs.Counts.{counted_cells}
 use Rattle.size_precheck.specs.Families.{IsJointAmong, IsOfFamily}
 use Rattle.size_precheck.specs.Joints.{joint_at, counted_over, AreStateCounts, IsCountedAt, SomeOf, HoldsOfEach, TagsDiffer, Tells, AreLive, tests_of, Rising, IsListOf, IsGreedyStart, family_test, parents_test}
@@ -45,22 +46,19 @@ contains_some v list m = among_some v list (among_from_contains list v m)
 pub some_contains : (v : ℕ) (list : List ℕ) → SomeOf (λ x. x ≡ v) list → Contains list v
 some_contains v list s = contains_from_among list v (some_among v list s)
 
-same_numbers : (a b : ℕ) → a ≡ b → eqb a b ≡ true
-same_numbers a b e = grind (arith, nat_tests)
-
 numbers_same : (a b : ℕ) → eqb a b ≡ true → a ≡ b
 numbers_same a b e = grind (arith, nat_tests)
 
 pub has_contains : (list : List ℕ) (v : ℕ) → (has list v ≡ true) ↔ Contains list v
 has_contains list v = (
   (λ e. some_contains v list (some_map (λ x. eqb x v ≡ true) (λ x. x ≡ v) (λ x f. numbers_same x v f) list (any_some (λ x. eqb x v) list e))),
-  (λ m. some_any (λ x. eqb x v) list (some_map (λ x. x ≡ v) (λ x. eqb x v ≡ true) (λ x f. same_numbers x v f) list (contains_some v list m))),
+  (λ m. some_any (λ x. eqb x v) list (some_map (λ x. x ≡ v) (λ x. eqb x v ≡ true) (λ x f. eqb_yes x v f) list (contains_some v list m))),
 )
 
 pub family_told : (nodes : List NodeView) (v : ℕ) (scope : NodeSet) → ((u : ℕ) → IsIn scope u ↔ ((u ≡ v) ⊎ Contains (parents_of nodes v) u)) → (u : ℕ) → holds scope u ≡ family_test nodes v u
 family_told nodes v scope is u = same_test _ _
     (λ m. elim ((is u).0 m) as (λ _. (eqb v u || has (parents_of nodes v) u) ≡ true) [
-      | inl e ↦ ap (λ b. b || has (parents_of nodes v) u) (same_numbers v u (sym e))
+      | inl e ↦ ap (λ b. b || has (parents_of nodes v) u) (eqb_yes v u (sym e))
       | inr k ↦ right (eqb v u) _ ((has_contains (parents_of nodes v) u).1 k)
     ])
     (λ e. (is u).1 (elim (either (eqb v u) _ e) as (λ _. (u ≡ v) ⊎ Contains (parents_of nodes v) u) [ inl f ↦ inl (sym (numbers_same v u f)) | inr f ↦ inr ((has_contains (parents_of nodes v) u).0 f) ]))

@@ -84,15 +84,6 @@ pub record HasSameBounds (d e : DiagramView) : Type 0 where
   pub agents : e.agents ≡ d.agents
   pub decimals : e.decimals ≡ d.decimals
 
-pub bounds_turned : (d e : DiagramView) → HasSameBounds d e → HasSameBounds e d
-bounds_turned d e h = record {
-  like = turned d.nodes e.nodes h.like;
-  totals = λ v. sym (h.totals v);
-  values = λ v k. sym (h.values v (sym (h.like.kinds v) ∙ k));
-  agents = sym h.agents;
-  decimals = sym h.decimals;
-}
-
 module _ (d e : DiagramView) (h : HasSameBounds d e) where
   factor_same : ◌≡◌ {A = ℕ → ℕ} (bound_factor e.nodes) (bound_factor d.nodes)
   factor_same = fun_ext (λ v. λ i. bound_by (h.like.kinds v i) (h.totals v i) (h.like.states v i))

@@ -7,13 +7,13 @@ use Rattle.std.specs.List.{range_with_len}
 use Rattle.arc_laws.proofs.LostArc.{set_at}
 use Rattle.diagram_graph.specs.Edited.{with_nodes}
 use Rattle.maid_laws.proofs.Choices.{weights_by-at}
-use Rattle.maid_laws.proofs.Signs.{at_pos}
 use Rattle.maid_laws.proofs.Tied.{kind_within}
 use Rattle.maid_model.specs.declared.diagrams.Kind.TheVariants.{Chance, Utility}
 use Rattle.maid_model.specs.Diagrams.{IsDiagram, greatest_number}
 use Rattle.maid_model.specs.Nodes.{node_at, rows_of, states_of}
 use Rattle.maid_model.specs.Tables.{chance_total}
 use Rattle.maid_model.specs.Views.{NodeView, DiagramView}
+use Rattle.maid_model.proofs.Weighing.{pos_at}
 use Rattle.reach_laws.specs.Threshold.{IsMoved, IsPlace, state_weight, others_weight}
 use Rattle.reach_laws.proofs.Moved as moving
 use Rattle.reach_laws.proofs.Perfect.{rows_like}
@@ -79,7 +79,7 @@ module _ (d : DiagramView) (place : Place) (h : IsDiagram d) (p : IsCell d.nodes
       let t = moved.tables.table x (ap (λ (n : NodeView). n.kind) moved.at) in
       let states : states_of others x ≡ states_of nodes x = ap (λ (n : NodeView). n.states) moved.at in
       let at : state_weight others x s r ≡ pos (new_weight nodes place scales s r) =
-      (λ i. slice_index_or (cells_are i) (r * states i + s) (pos 0)) ∙ at_pos (map (λ c. new_weight nodes place scales (c % states_of nodes x) (c / states_of nodes x)) (range_with_len 0 (rows_of nodes x * states_of nodes x))) (r * states_of nodes x + s)
+      (λ i. slice_index_or (cells_are i) (r * states i + s) (pos 0)) ∙ pos_at (map (λ c. new_weight nodes place scales (c % states_of nodes x) (c / states_of nodes x)) (range_with_len 0 (rows_of nodes x * states_of nodes x))) (r * states_of nodes x + s)
       ∙ ap pos (weights_by-at (rows_of nodes x) (states_of nodes x) (λ r s. new_weight nodes place scales s r) r s l m) in
       let sum = t.row r (subst (λ n. r < n) (sym (rows_like nodes others (like d x place.state place.row num 1 others h is moved) x)) l) in
       let most = one_at_most (λ s. state_weight others x s r) (λ i. t.not_negative (r * states_of others x + i)) (states_of others x) s (subst (λ n. s < n) (sym states) m) in

@@ -116,11 +116,6 @@ up_to_same a b num den h =
     let g = p.2 in
     ((λ l. omega (arith, ints)), (λ l. omega (arith, ints)))
 
--- two numbers not below nought are so all the way between
-pub both_natural : (a b num den : ℕ) → num ≤ den → pos 0 ≤ℤ between (pos a) (pos b) num den
-both_natural a b num den h =
-    let k = minus num den h in subst (λ z. pos 0 ≤ℤ ((pos b *ℤ pos num) +ℤ (pos a *ℤ z))) (sym k.2) (omega (arith, ints))
-
 -- two below nought are nowhere
 pub not_both : (a b num den : ℕ) → 0 < a → 0 < b → 0 < den → num ≤ den → pos 0 ≤ℤ between (pos 0 -ℤ pos a) (pos 0 -ℤ pos b) num den → ⊥
 not_both a b num den ha hb hd h n =
@@ -214,16 +209,6 @@ cut_high held high turn nought one r part up_to num_is den_is h k = record {
           (λ x. subst (λ z. num * z ≤ turn.num * den) (sym den_is) (subst (λ z. num * (nat_abs nought + nat_abs one) ≤ z * den) (sym num_is)
               (e.1 (subst (λ z. pos 0 ≤ℤ between (pos (nat_abs nought)) z num den) low_is (subst (λ z. pos 0 ≤ℤ between z one num den) high_is x))))),
         )
-
--- where both numbers are not below nought nothing is cut
-pub no_cut : (held : Held) (nought one : ℤ) → IsRange held → pos 0 ≤ℤ nought → pos 0 ≤ℤ one → Narrows (IsNotBelow nought one) held held
-no_cut held nought one r h k = record {
-  range = r;
-  within = λ num den p l. (
-    (λ x. (x, subst (λ z. pos 0 ≤ℤ between z one num den) (sym (of_natural nought h)) (subst (λ z. pos 0 ≤ℤ between (pos (nat_abs nought)) z num den) (sym (of_natural one k)) (both_natural (nat_abs nought) (nat_abs one) num den l)))),
-    (λ x. x.0),
-  );
-}
 
 -- ---- the greater and the lesser of two fractions
 pub greater_of : (a b c : Part) → IsPart a → IsPart b → a.num * b.den ≤ b.num * a.den → c ≡ b → IsPart c × ((num den : ℕ) → IsFrom c num den ↔ (IsFrom a num den × IsFrom b num den))

@@ -70,9 +70,6 @@ module _ (nodes : List NodeView) (place : Place) (c : HasChanceTables nodes) (p 
   abbrev whole : ℕ
   whole = chance_total nodes place.node
 
-  weights : ℕ → ℤ
-  weights s = state_weight nodes x s place.row
-
   least : (r s : ℕ) → pos 0 ≤ℤ state_weight nodes x s r
   least r s = (c.table x p.kind).not_negative (r * states_of nodes x + s)
 

@@ -16,6 +16,7 @@ use Rattle.maid_model.specs.Relevance.{ReliesOn}
 use Rattle.maid_model.specs.Tables.{HasChanceTables, cell_of, chance_total, row_of, rule_total, table, table_by, weights_of}
 use Rattle.maid_model.specs.Views.{NodeView, RuleView}
 use Rattle.maid_model.proofs.Tables.{row_of-below}
+use Rattle.maid_model.proofs.Weighing.{pos_at}
 use Rattle.maid_laws.specs.Irrelevance.{AgreeWhereRelied}
 use Rattle.maid_laws.proofs.Basis.{product_over-cong, table_same}
 use Rattle.maid_laws.proofs.Best.{cancel_le}
@@ -24,7 +25,6 @@ use Rattle.maid_laws.proofs.Choices.{made_at, made_profile, put_at}
 use Rattle.maid_laws.proofs.Rearranged.{numbered}
 use Rattle.maid_laws.proofs.RowLaws.{irrelevance_law, mass_at_least, no_gain_like}
 use Rattle.maid_laws.proofs.Rules.{among_decisions}
-use Rattle.maid_laws.proofs.Signs.{at_pos}
 use Rattle.maid_laws.proofs.Step.{times_le}
 use Rattle.maid_laws.proofs.Tied.{decision_of, tables_of}
 use Rattle.arc_laws.proofs.ControlLaws.{chance_within}
@@ -85,7 +85,7 @@ module _ (nodes others : List NodeView) (agent x : ℕ) (r : Controls nodes othe
       at_x : table others filled x w ≡ table nodes p x w
       at_x =
           (λ i. table_by (kind_there i) (node_at others x).cells (own_filled i) (row_there x w i * states_there x i + w x))
-          ∙ sym (at_pos ws (cell_of nodes x w))
+          ∙ sym (pos_at ws (cell_of nodes x w))
           ∙ ap (λ cs. slice_index_or cs (cell_of nodes x w) (pos 0)) (abs_cells (node_at nodes x).cells (c.table x k).not_negative)
           ∙ (λ i. table_by (sym k i) (node_at nodes x).cells (weights_of p x) (cell_of nodes x w))
 

@@ -28,7 +28,7 @@ pub record IsPlayed (d : DiagramView) (p : List RuleView) (agent : ℕ) : Type 0
   pub within : agent < d.agents
 
 -- the part of the agent's scope, with the profile's rules
-pub record IsStageFor (d : DiagramView) (p : List RuleView) (agent : ℕ) (part : DiagramView) (rules : List RuleView) : Type 0 where
+pub record IsRuledPartFor (d : DiagramView) (p : List RuleView) (agent : ℕ) (part : DiagramView) (rules : List RuleView) : Type 0 where
   pub part_is : part ≡ part_diagram d (scope_for d.nodes agent)
   pub rules_are : rules ≡ rules_in d.nodes p (scope_for d.nodes agent)
 
@@ -38,7 +38,7 @@ pub record CanWeigh (d : DiagramView) (p : List RuleView) : Type 0 where
   pub tables : HasChanceTables d.nodes
   pub fits : mass d.nodes p * max (10 ^ d.decimals) (greatest_utility d.nodes) ≤ greatest_number
 
-module _ (d : DiagramView) (p : List RuleView) (agent : ℕ) (h : IsPlayed d p agent) (part : DiagramView) (rules : List RuleView) (stage : IsStageFor d p agent part rules) where
+module _ (d : DiagramView) (p : List RuleView) (agent : ℕ) (h : IsPlayed d p agent) (part : DiagramView) (rules : List RuleView) (ruled : IsRuledPartFor d p agent part rules) where
   pub can_weigh : CanWeigh part rules
   can_weigh =
       let closed = (agents_scopes_law d.nodes agent h.graph).0 in
@@ -47,10 +47,10 @@ module _ (d : DiagramView) (p : List RuleView) (agent : ℕ) (h : IsPlayed d p a
         tables = tables_law d.nodes (scope_for d.nodes agent) h.tables closed;
         fits = ((room_law d p h.graph h.tables h.profile h.bound).1 agent h.within h.unit).call;
       } in
-      subst (λ x. CanWeigh x rules) (sym stage.part_is) (subst (λ x. CanWeigh (part_diagram d (scope_for d.nodes agent)) x) (sym stage.rules_are) there)
+      subst (λ x. CanWeigh x rules) (sym ruled.part_is) (subst (λ x. CanWeigh (part_diagram d (scope_for d.nodes agent)) x) (sym ruled.rules_are) there)
 
   decimals : part.decimals ≡ d.decimals
-  decimals = ap (λ (x : DiagramView). x.decimals) stage.part_is
+  decimals = ap (λ (x : DiagramView). x.decimals) ruled.part_is
 
   scale : 0 < 10 ^ d.decimals
   scale = let ten : 0 < 10 = omega arith in one-le-pow d.decimals 10 ten
@@ -77,8 +77,8 @@ module _ (d : DiagramView) (p : List RuleView) (agent : ℕ) (h : IsPlayed d p a
   same_worth w =
       let scopes = agents_scopes_law d.nodes agent h.graph in
       let told = worths_law d.nodes p (scope_for d.nodes agent) agent (10 ^ d.decimals) w h.graph h.tables h.profile scopes.0 scopes.1 in (
-        λ f. told.1 (subst (λ x. IsFraction w (gain_of (part_diagram d (scope_for d.nodes agent)).nodes x agent) (mass (part_diagram d (scope_for d.nodes agent)).nodes x * 10 ^ d.decimals)) stage.rules_are
-            (subst (λ (x : DiagramView). IsFraction w (gain_of x.nodes rules agent) (mass x.nodes rules * 10 ^ d.decimals)) stage.part_is f)),
-        λ e. subst (λ (x : DiagramView). IsFraction w (gain_of x.nodes rules agent) (mass x.nodes rules * 10 ^ d.decimals)) (sym stage.part_is)
-            (subst (λ x. IsFraction w (gain_of (part_diagram d (scope_for d.nodes agent)).nodes x agent) (mass (part_diagram d (scope_for d.nodes agent)).nodes x * 10 ^ d.decimals)) (sym stage.rules_are) (told.0 e)),
+        λ f. told.1 (subst (λ x. IsFraction w (gain_of (part_diagram d (scope_for d.nodes agent)).nodes x agent) (mass (part_diagram d (scope_for d.nodes agent)).nodes x * 10 ^ d.decimals)) ruled.rules_are
+            (subst (λ (x : DiagramView). IsFraction w (gain_of x.nodes rules agent) (mass x.nodes rules * 10 ^ d.decimals)) ruled.part_is f)),
+        λ e. subst (λ (x : DiagramView). IsFraction w (gain_of x.nodes rules agent) (mass x.nodes rules * 10 ^ d.decimals)) (sym ruled.part_is)
+            (subst (λ x. IsFraction w (gain_of (part_diagram d (scope_for d.nodes agent)).nodes x agent) (mass (part_diagram d (scope_for d.nodes agent)).nodes x * 10 ^ d.decimals)) (sym ruled.rules_are) (told.0 e)),
       )

@@ -1,5 +1,5 @@
 -- A base is made of uniform rules, into which the chosen rules of the relied-on decisions are put.
-use Rattle.std.proofs.Common.{◌≡◌, ◌∙◌, ◌⊎◌, ◌↔◌, ℕ, ◌+◌, ◌<◌, ◌≤◌, List, [], ◌∷◌, ◌++◌, take, length, get_or, sym, ap, subst, inl, inr, arith}
+use Rattle.std.proofs.Common.{◌≡◌, ◌∙◌, ◌⊎◌, ◌↔◌, ℕ, ◌+◌, ◌<◌, ◌≤◌, List, [], ◌∷◌, ◌++◌, take, length, get_or, sym, subst, inl, inr}
 use Rattle.std.proofs.Math.Decide.{ℕ_discrete}
 use Rattle.std.proofs.lemmas.List.{take_more, take_all}
 use Rattle.std.proofs.lemmas.List.Elements.{Contains-append_left, Contains-push, Contains-push_cases}
@@ -22,17 +22,6 @@ abbrev pub chosen_rule : List RuleView → ℕ → RuleView
 chosen_rule chosen e = record { decision = e; total = rule_total chosen e; weights = weights_of chosen e }
 
 module _ (nodes : List NodeView) (chosen : List RuleView) (relied : List ℕ) where
-  pub base_start : (base : List RuleView) → base ≡ uniform_profile nodes → IsProfile nodes base → BaseSoFar nodes chosen relied 0 base
-  base_start base is profile = record {
-    profile = profile;
-    same = λ e c. absurd (none relied e c);
-    others = λ e k n. record { weights = ap (λ p. weights_of p e) is; total = ap (λ p. rule_total p e) is };
-  }
-    where
-      none : (xs : List ℕ) (e : ℕ) → Contains (take 0 xs) e → ⊥
-      none [] e c = omega (arith, c.1)
-      none (x ∷ xs) e c = omega (arith, c.1)
-
   -- the next relied-on decision's rule is put in
   pub base_put : (n : ℕ) (base base' : List RuleView) → BaseSoFar nodes chosen relied n base → n < length relied → Replaces base base' (chosen_rule chosen (get_or relied n 0)) → IsProfile nodes base' → BaseSoFar nodes chosen relied (n + 1) base'
   base_put n base base' so h put profile = record {

@@ -1,5 +1,5 @@
 -- What a report can show has one verdict: a line has one row or agent, and a decision one base.
-use Rattle.std.proofs.Common.{◌≡◌, ◌∙◌, ℕ, ◌^◌, ◌<◌, List, [], ◌∷◌, slice_index, length, refl, sym, ap, subst, arith}
+use Rattle.std.proofs.Common.{◌≡◌, ◌∙◌, ℕ, ◌^◌, ◌<◌, List, slice_index, length, refl, sym, ap, subst, arith}
 use Rattle.std.proofs.Math.Decide.{ℕ_discrete, dec_lt}
 use Rattle.maid_model.specs.Accepted.{IsAccepted, IsAcceptedAt, IsReliedFirst}
 use Rattle.maid_model.specs.Answers.{FitsDiagram, IsBase, answered, answer_at, rows_at}
@@ -10,6 +10,7 @@ use Rattle.maid_model.specs.Tables.{weights_of, rule_total}
 use Rattle.maid_model.specs.Views.{NodeView, RuleView, DiagramView, SolvedView}
 use Rattle.maid_laws.proofs.Decided.{not_not_dec}
 use Rattle.maid_laws.proofs.SameProfile.{same_profile}
+use Rattle.maid_laws.proofs.OneAnswer.{list_dec}
 use Rattle.tree_checker.specs.declared.verdicts.Cause.{Cause}
 use Rattle.tree_checker.specs.declared.verdicts.Cause.TheVariants.{Order, Choice, Worth, Never, Gain}
 use Rattle.tree_checker.specs.declared.verdicts.Verdict.TheVariants.{Accepted, Rejected}
@@ -17,18 +18,6 @@ use Rattle.tree_checker.specs.Laws.{OneVerdict}
 use Rattle.tree_checker.specs.Verdicts.{FailsRow, FailsAtRow, FailsAtAgent, FailsInRows, FailsLine, line_of_answer, line_of_row, line_of_gain, no_gain}
 use Rattle.tree_checker.proofs.LineLaws.{decided, row_before, row_before_gains}
 use Rattle.tree_checker.proofs.RowClash.{row_clash, one_cause, passes_of}
-
--- equations of numbers and of lists of numbers may be shown by way of contradiction
-list_dec : (xs ys : List ℕ) → Dec (xs ≡ ys)
-list_dec [] [] = yes refl
-list_dec [] (y ∷ ys) = no (λ e. cc)
-list_dec (x ∷ xs) [] = no (λ e. cc)
-list_dec (x ∷ xs) (y ∷ ys) = go (ℕ_discrete x y) (list_dec xs ys)
-  where
-    go : Dec (x ≡ y) → Dec (xs ≡ ys) → Dec (x ∷ xs ≡ y ∷ ys)
-    go (yes e) (yes f) = yes (λ i. e i ∷ f i)
-    go (yes e) (no n) = no (λ g. n cc)
-    go (no n) d = no (λ g. n cc)
 
 stable : {A : Type 0} → Dec A → (¬ ¬ A) → A
 stable (yes a) h = a

@@ -12,7 +12,7 @@ use Rattle.maid_model.specs.Tables.{cell_of, row_from, row_of}
 use Rattle.maid_model.specs.Views.{DiagramView, NodeView}
 use Rattle.maid_model.proofs.Cells.{drop_at}
 use Rattle.maid_model.proofs.Found.{eqb_yes, eqb_no}
-use Rattle.maid_model.proofs.Picked.{RowSoFar}
+use Rattle.maid_model.proofs.Picked.{RowSoFar, row_from-ge}
 use Rattle.tree_checker.specs.Walks.{cell_step, row_step}
 
 -- 1 at v and 0 elsewhere
@@ -77,13 +77,6 @@ step_le count h v (u ∷ us) d = go (ℕ_discrete u v) (step_le count h v us d.1
     go (no n) rec =
         subst (λ k. row_from count (one_at v) k us ≤ count u * rows_under count us) (sym (ap (λ t. 0 * count u + cond t 1 0) (eqb_no u v n) ∙ start (count u) 0))
         (grown (row_from count (one_at v) 0 us) (count u) (rows_under count us) (h u) rec)
-
-row_from-ge : (count : ℕ → ℕ) (w : World) → ((v : ℕ) → 0 < count v) → (us : List ℕ) (row : ℕ) → row ≤ row_from count w row us
-row_from-ge count w h [] row = omega arith
-row_from-ge count w h (u ∷ us) row = le row (count u) (w u) (row_from count w (row * count u + w u) us) (h u) (row_from-ge count w h us (row * count u + w u))
-  where
-    le : (r c x y : ℕ) → 0 < c → r * c + x ≤ y → r ≤ y
-    le r c x y h k = omega (arith, mul-le-mul_left r h)
 
 module _ (d : DiagramView) (is : IsDiagram d) (node : ℕ) (inside : node < length d.nodes) (v : ℕ) where
   pub step_within : row_step d.nodes node v ≤ rows_of d.nodes node

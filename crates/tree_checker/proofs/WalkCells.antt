@@ -1,7 +1,6 @@
 -- The sums of cells are the gains and masses of a decision, or one agent's gain.
-use Rattle.std.proofs.Common.{◌≡◌, ◌∙◌, ℕ, ◌+◌, ◌*◌, ◌^◌, ◌<◌, ◌≤◌, ◌/◌, ◌%◌, cond, ◌&&◌, eqb, List, length, sym, ap, subst, arith, ℤ, pos, ◌*ℤ◌, nat_abs, slice_index, slice_index_or}
+use Rattle.std.proofs.Common.{◌≡◌, ◌∙◌, ℕ, ◌+◌, ◌*◌, ◌^◌, ◌<◌, ◌≤◌, cond, ◌&&◌, eqb, List, length, sym, ap, subst, arith, ℤ, pos, ◌*ℤ◌, nat_abs, slice_index, slice_index_or}
 use Rattle.std.proofs.lemmas.List.{get_or_default, get_or_past}
-use Rattle.std.proofs.lemmas.Nat.{div-mul-add, mod-mul-add}
 use Rattle.std.proofs.Math.Decide.{ℕ_discrete, dec_lt}
 use Rattle.finite_sums.specs.Sums.{World, InRange}
 use Rattle.finite_sums.proofs.Sums.{sum_over_cong}
@@ -12,17 +11,13 @@ use Rattle.maid_model.specs.Nodes.{is_utility_of, no_node, node_at, numbers_of, 
 use Rattle.maid_model.specs.Private.{marked_utility}
 use Rattle.maid_model.specs.Tables.{cell_of, row_from, row_of}
 use Rattle.maid_model.specs.Views.{DiagramView, NodeView, RuleView}
-use Rattle.maid_model.proofs.Bases.{below_is}
+use Rattle.maid_model.proofs.Bases.{below_is, digits}
 use Rattle.maid_model.proofs.Found.{eqb_yes, eqb_no}
 use Rattle.maid_model.proofs.Leaves.{marked_is, nothing_out}
 use Rattle.node_sets.specs.declared.sets.NodeSet.{NodeSet}
 use Rattle.node_sets.specs.Sets.{holds}
 use Rattle.tree_checker.specs.Judged.{ListsSums}
 use Rattle.tree_checker.specs.Walks.{ListsCells, cell_gain, cell_mass}
-
--- a cell's number tells its row and its state
-digits : (r s x y c : ℕ) → x < c → y < c → r * c + x ≡ s * c + y → (r ≡ s) × (x ≡ y)
-digits r s x y c h k e = (sym (div-mul-add r c x h) ∙ ap (λ n. n / c) e ∙ div-mul-add s c y k, sym (mod-mul-add r c x h) ∙ ap (λ n. n % c) e ∙ mod-mul-add s c y k)
 
 cell_test : (r s x y c : ℕ) → x < c → y < c → eqb (r * c + x) (s * c + y) ≡ (eqb x y && eqb r s)
 cell_test r s x y c h k = go (ℕ_discrete x y) (ℕ_discrete r s)

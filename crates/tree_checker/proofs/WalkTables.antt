@@ -1,5 +1,5 @@
 -- What a walk uses of a diagram: at which nodes its factors and values look, what they add up to, and how large they get.
-use Rattle.std.proofs.Common.{◌≡◌, ◌∙◌, ◌⊎◌, ℕ, zero, suc, ℤ, ◌<◌, ◌≤◌, Bool, true, false, cond, eqb, List, [], ◌∷◌, length, refl, sym, ap, subst, inl, inr, arith, pos, ◌≤ℤ◌, nat_abs, slice_index_or}
+use Rattle.std.proofs.Common.{◌≡◌, ◌∙◌, ◌⊎◌, ℕ, ℤ, ◌<◌, ◌≤◌, Bool, true, false, cond, eqb, List, [], ◌∷◌, length, refl, sym, ap, subst, inl, inr, arith, pos, ◌≤ℤ◌, nat_abs, slice_index_or}
 use Rattle.std.proofs.lemmas.Int.{ints}
 use Rattle.std.proofs.lemmas.List.{get_or_past}
 use Rattle.std.proofs.Math.Decide.{ℕ_discrete, dec_lt}
@@ -22,7 +22,7 @@ use Rattle.maid_model.specs.Tables.{row_of, table, weight_total}
 use Rattle.maid_model.specs.Views.{DiagramView, NodeView, RuleView}
 use Rattle.maid_model.proofs.Found.{eqb_yes, eqb_no}
 use Rattle.maid_model.proofs.Setting.{ParentsFirst}
-use Rattle.maid_model.proofs.Summing.{value_le}
+use Rattle.maid_model.proofs.Summing.{cell_abs, value_le}
 use Rattle.maid_model.proofs.Tables.{row_from_other, table_ignores}
 use Rattle.maid_model.proofs.Uniform.{sum_ones}
 use Rattle.maid_model.proofs.Weighing.{tables_of}
@@ -81,11 +81,6 @@ values_small nodes marks m v w = go (dec_lt v (length nodes)) (true_or_false (ho
     go (yes l) (inl e) = value_le nodes marks w v m l e
     go d (inr e) = subst (λ b. nat_abs (cond b (slice_index_or (node_at nodes v).cells (row_of nodes v w) (pos 0)) (pos 0)) ≤ greatest_at nodes v) (sym e) (omega arith)
     go (no n) (inl e) = subst (λ (x : NodeView). nat_abs (cond (holds marks v) (slice_index_or x.cells (row_of nodes v w) (pos 0)) (pos 0)) ≤ greatest_at nodes v) (sym (get_or_past nodes v no_node (past n))) (unmarked (holds marks v))
-
-cell_abs : (cells : List ℤ) (i : ℕ) → nat_abs (slice_index_or cells i (pos 0)) ≤ greatest_abs cells
-cell_abs [] i = omega arith
-cell_abs (x ∷ xs) zero = omega arith
-cell_abs (x ∷ xs) (suc i) = omega (arith, cell_abs xs i)
 
 -- the same of any row
 pub cells_small : (nodes : List NodeView) (marks : NodeSet) → MarksUtilities nodes marks → (v : ℕ) → v < length nodes → (row : ℕ) → nat_abs (value_at nodes marks v row) ≤ greatest_at nodes v

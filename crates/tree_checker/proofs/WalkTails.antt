@@ -3,15 +3,14 @@ use Rattle.std.proofs.Common.{◌≡◌, ◌∙◌, ℕ, zero, suc, ◌+◌, ◌
 use Rattle.std.specs.Prelude.{Vec}
 use Rattle.std.specs.declared.alloc.Global.{Global}
 use Rattle.diagram_graph.specs.Cycles.{lists_in}
-use Rattle.std.proofs.lemmas.List.{drop_more, length-map}
+use Rattle.std.proofs.lemmas.List.{length-map}
 use Rattle.std.proofs.Math.IntN.{+ℤ_assoc}
 use Rattle.std.proofs.Math.Nat.{mul-le-mul_left, mul-le-mul_right}
 use Rattle.finite_sums.proofs.Ints.{mul_one}
 use Rattle.finite_sums.specs.Sums.{nat_product_over, sum_each}
-use Rattle.maid_model.specs.declared.diagrams.Kind.TheVariants.{Utility}
 use Rattle.maid_model.specs.Diagrams.{IsDiagram, greatest_number}
 use Rattle.maid_model.specs.Gains.{base_total, greatest_utility}
-use Rattle.maid_model.specs.Nodes.{counts_of, node_at, rows_of, states_of}
+use Rattle.maid_model.specs.Nodes.{counts_of, rows_of, states_of}
 use Rattle.maid_model.specs.Private.{MarksUtilities, marked_value}
 use Rattle.maid_model.specs.Profiles.{IsProfile}
 use Rattle.maid_model.specs.Tables.{cell_of}
@@ -28,14 +27,6 @@ tail_whole nodes [] zero h k l = absurd (omega arith)
 tail_whole nodes [] (suc n) h k l = absurd (omega arith)
 tail_whole nodes (v ∷ vs) zero h k l = absurd (omega arith)
 tail_whole nodes (v ∷ vs) (suc n) h k l = tail_whole nodes vs n (omega arith) k l
-
--- one utility more
-pub tail_more : (nodes : List NodeView) (order : List ℕ) (n : ℕ) → n < length order → (node_at nodes (slice_index order n)).kind ≡ Utility → AreUtilities nodes (drop (n + 1) order) → AreUtilities nodes (drop n order)
-tail_more nodes order n l e h = subst (AreUtilities nodes) (sym (drop_more order n 0 l)) go
-  where
-    go : AreUtilities nodes (slice_index order n ∷ drop (n + 1) order)
-    go zero k = e
-    go (suc i) k = h i (omega arith)
 
 pub down_within : (nodes : List NodeView) (vs : List ℕ) → IsDownward nodes vs → (k : ℕ) → k < length vs → slice_index vs k < length nodes
 down_within nodes [] h k l = absurd (omega arith)

@@ -6,8 +6,9 @@ use Rattle.std.proofs.Math.Path.{fun_ext}
 use Rattle.finite_sums.specs.Looks.{IgnoresAll, IgnoresLater, HasTotal, HaveTotals}
 use Rattle.finite_sums.specs.Sums.{World, with_state, sum_below, sum_over, InRange, product_over, nat_product_over, nat_sum_over, sum_each}
 use Rattle.finite_sums.proofs.Ints.{mul_assoc, mul_one}
-use Rattle.finite_sums.proofs.Sums.{sum_below_cong, sum_below_zero, with_in}
+use Rattle.finite_sums.proofs.Sums.{sum_below_cong, with_in}
 use Rattle.maid_model.proofs.Summing.{abs_add}
+use Rattle.maid_laws.proofs.Proportions.{sum_over_zero}
 
 -- what looks at none of the summed nodes is the same in all worlds of the sum
 pub frozen : (count : ℕ → ℕ) (vs : List ℕ) (g : World → ℤ) (f : ℤ → World → ℤ) → IgnoresAll count g vs → (w : World) → InRange count w → sum_over count vs (λ x. f (g x) x) w ≡ sum_over count vs (λ x. f (g w) x) w
@@ -15,11 +16,6 @@ frozen count [] g f h w i = refl
 frozen count (v ∷ vs) g f h w i =
     sum_below_cong (count v) (λ s. sum_over count vs (λ x. f (g x) x) (with_state w v s)) (λ s. sum_over count vs (λ x. f (g w) x) (with_state w v s))
     (λ s l. frozen count vs g f h.1 (with_state w v s) (with_in count w v s i l) ∙ ap (λ z. sum_over count vs (λ x. f z x) (with_state w v s)) (h.0.same w i s l))
-
--- a sum of nothing
-pub none_over : (count : ℕ → ℕ) (vs : List ℕ) (w : World) → sum_over count vs (λ x. pos 0) w ≡ pos 0
-none_over count [] w = refl
-none_over count (v ∷ vs) w = sum_below_cong (count v) (λ s. sum_over count vs (λ x. pos 0) (with_state w v s)) (λ s. pos 0) (λ s l. none_over count vs (with_state w v s)) ∙ sum_below_zero (count v)
 
 -- the product so far and the sum so far end in one number at each world that picks the cell
 module _ (count : ℕ → ℕ) (table value : ℕ → World → ℤ) (cell : World → ℕ) (ends : ℤ → ℤ → ℤ) where
@@ -40,7 +36,7 @@ module _ (count : ℕ → ℕ) (table value : ℕ → World → ℤ) (cell : Wor
   -- nothing is left of a product that is nought
   pub nothing : ((b : ℤ) → ends (pos 0) b ≡ pos 0) → (vs : List ℕ) (q : ℤ) (c : ℕ) (w : World) → below vs (pos 0) q c w ≡ pos 0
   nothing h vs q c w = ap (λ f. sum_over count vs f w) (fun_ext (λ x. either (eqb (cell x) c) (ends (pos 0 *ℤ product_over (λ v. table v x) vs) (q +ℤ sum_each (λ v. value v x) vs))
-      (ap (λ z. ends z (q +ℤ sum_each (λ v. value v x) vs)) (zero_mul (product_over (λ v. table v x) vs)) ∙ h (q +ℤ sum_each (λ v. value v x) vs)))) ∙ none_over count vs w
+      (ap (λ z. ends z (q +ℤ sum_each (λ v. value v x) vs)) (zero_mul (product_over (λ v. table v x) vs)) ∙ h (q +ℤ sum_each (λ v. value v x) vs)))) ∙ sum_over_zero count vs w
     where
       zero_mul : (a : ℤ) → pos 0 *ℤ a ≡ pos 0
       zero_mul a = omega (arith, ints)

@@ -12,7 +12,7 @@ use Rattle.maid_model.specs.Answers.{IsBase, IsFraction, IsExpectedUtility, no_r
 use Rattle.maid_model.specs.Accepted.{IsAcceptedRow}
 use Rattle.std.specs.Global.{Vec}
 use Rattle.tree_checker.specs.declared.decisions.RowSums.{RowSums}
-use Rattle.tree_checker.specs.declared.parts.Stage.{Stage}
+use Rattle.tree_checker.specs.declared.parts.RuledPart.{RuledPart}
 use Rattle.tree_checker.specs.declared.verdicts.Cause.{Cause}
 use Rattle.tree_checker.specs.declared.rows.RowFault.{RowFault}
 use Rattle.tree_checker.specs.Verdicts.{FailsIn, FailsRow, no_gain}
@@ -60,12 +60,12 @@ abbrev pub rule_as : RuleView → ℕ → RuleView
 rule_as rule v = record { decision = v; total = rule.total; weights = rule.weights }
 
 -- the part that these nodes and their ancestors make has just those
-abbrev pub HasNodesAbove : List NodeView → List ℕ → Stage → Type 0
-HasNodesAbove nodes of stage = stage.part.nodes.items ≡ with_ancestors nodes of
+abbrev pub HasNodesAbove : List NodeView → List ℕ → RuledPart → Type 0
+HasNodesAbove nodes of ruled = ruled.part.nodes.items ≡ with_ancestors nodes of
 
 -- its rules are the profile's in that part
-abbrev pub HasRulesAbove : List NodeView → List RuleView → List ℕ → Stage → Type 0
-HasRulesAbove nodes p of stage = stage.rules ≡ rules_above nodes p of
+abbrev pub HasRulesAbove : List NodeView → List RuleView → List ℕ → RuledPart → Type 0
+HasRulesAbove nodes p of ruled = ruled.rules ≡ rules_above nodes p of
 
 -- the sums in the part of the decision's scope
 abbrev pub ListsScopeSums : DiagramView → List RuleView → ℕ → List ℤ → List ℕ → Type 0

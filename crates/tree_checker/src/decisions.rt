@@ -9,7 +9,7 @@ ghost use Rattle.tree_checker.specs.Judged.{HoldsScopeSums, HoldsSums, HasFirstC
 ghost use Rattle.diagram_graph.specs.Room.{cells_at};
 ghost use Rattle.tree_checker.specs.Walks.{HasRoomWithout};
 
-use crate::parts::{place_of, stage_of};
+use crate::parts::{place_of, ruled_part};
 use crate::walks::cells_over;
 use maid_model::{Diagram, Profile, descent_is_tested, goals_of};
 use part_laws::{parts_are_diagrams, scoped_sums_fit, scopes_are_parts};
@@ -104,7 +104,7 @@ pub(crate) fn scope_sums(
     scoped_sums_fit();
     let _count = diagram.count();
     let ends = ends_of(alloc, diagram, decision)?;
-    let stage = stage_of(alloc, diagram, base, &ends)?;
-    let place = place_of(&stage.part.nodes, decision);
-    sums_over(alloc, &stage.part.diagram, &stage.rules, place)
+    let ruled = ruled_part(alloc, diagram, base, &ends)?;
+    let place = place_of(&ruled.part.nodes, decision);
+    sums_over(alloc, &ruled.part.diagram, &ruled.rules, place)
 }

@@ -11,8 +11,8 @@ ghost use Rattle.part_laws.specs.ScopeLaws.{HasUnitRules};
 ghost use Rattle.tree_checker.specs.Judged.{JudgesGains, AreWorth};
 ghost use Rattle.maid_model.specs.Bounds.{HasRoomForWeight};
 
-use crate::parts::stage_of;
-use crate::rows::{is_fraction, scale_of};
+use crate::parts::ruled_part;
+use crate::rows::is_fraction;
 use crate::walks::cells_over;
 use maid_model::{Diagram, Kind, Profile, Ratio, profile_has_rules};
 use std::alloc::{AllocError, Global};
@@ -107,10 +107,10 @@ fn is_gain(
 {
     let _count = diagram.count();
     let utilities = utilities_of(alloc, diagram, agent)?;
-    let stage = stage_of(alloc, diagram, chosen, &utilities)?;
-    let sum = gain_over(alloc, &stage.part.diagram, &stage.rules, agent)?;
-    let mass = mass_of(&stage.part.diagram, &stage.rules);
-    Ok(is_fraction(*gain, sum, mass * scale_of(diagram)))
+    let ruled = ruled_part(alloc, diagram, chosen, &utilities)?;
+    let sum = gain_over(alloc, &ruled.part.diagram, &ruled.rules, agent)?;
+    let mass = mass_of(&ruled.part.diagram, &ruled.rules);
+    Ok(is_fraction(*gain, sum, mass * diagram.scale()))
 }
 
 /// The first agent for which something else is printed than what the chosen rules are worth to it.

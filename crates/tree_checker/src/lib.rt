@@ -25,5 +25,4 @@ pub use counting::leaves;
 pub use gains::{gain_over, mass_of, utilities_of};
 pub use laws::{accepted_reports_are_sound, verdicts_are_one};
 pub use parts::rules_in_part;
-pub use rows::scale_of;
 pub use verdicts::{Cause, Verdict};

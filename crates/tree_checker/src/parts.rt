@@ -13,7 +13,7 @@ use std::alloc::{AllocError, Global};
 
 /// A part of a diagram, and a profile's rules at its decisions.
 #[derive(Drop)]
-pub(crate) struct Stage {
+pub(crate) struct RuledPart {
     pub part: SubDiagram,
     pub rules: Profile,
 }
@@ -45,17 +45,17 @@ pub fn rules_in_part(
 }
 
 /// The part that these nodes and all their ancestors make, with the profile's rules in it.
-pub(crate) fn stage_of(
+pub(crate) fn ruled_part(
     alloc: Global,
     diagram: &Diagram,
     profile: &Profile,
     of: &[usize],
-) -> Result<Stage, AllocError>
+) -> Result<RuledPart, AllocError>
     requires of { (v : ℕ) → Contains of.now v → v < length diagram.now.nodes }
     requires profile { IsProfile diagram.now.nodes profile.now }
     ensures nodes { IfOk result (HasNodesAbove diagram.now.nodes of.now) }
-    ensures diagram { IfOk result (λ stage.
-        stage.part.diagram ≡ part_above diagram.now of.now) }
+    ensures diagram { IfOk result (λ ruled.
+        ruled.part.diagram ≡ part_above diagram.now of.now) }
     ensures rules { IfOk result (HasRulesAbove diagram.now.nodes profile.now of.now) }
 {
     // Nodes and all their ancestors have with each node its parents.
@@ -63,7 +63,7 @@ pub(crate) fn stage_of(
     let _count = diagram.count();
     let part = part(alloc, diagram, of)?;
     let rules = rules_in_part(alloc, diagram, profile, &part.nodes)?;
-    Ok(Stage { part, rules })
+    Ok(RuledPart { part, rules })
 }
 
 /// The first place at which the node stands in the list.

@@ -1,6 +1,6 @@
 //! The rows of a report.
 
-ghost use Rattle.std.specs.Prelude.{◌≡◌, ◌<◌, ◌≤◌, ◌↔◌, ◌*◌, ◌^◌, ℕ, All, IfOk, IfSome, IsTrue, length, pos, nat_abs, slice_index, slice_index_or};
+ghost use Rattle.std.specs.Prelude.{◌≡◌, ◌<◌, ◌≤◌, ◌↔◌, ◌*◌, ℕ, All, IfOk, IfSome, IsTrue, length, pos, nat_abs, slice_index, slice_index_or};
 ghost use Rattle.maid_model.specs.Answers.{IsFraction, IsReduced};
 ghost use Rattle.maid_model.specs.Diagrams.{greatest_number};
 ghost use Rattle.maid_model.specs.Nodes.{IsDecision, rows_of, states_of};
@@ -28,14 +28,6 @@ use whole_num::reduce;
 pub(crate) struct RowFault {
     pub row: usize,
     pub cause: Cause,
-}
-
-/// By what the utilities are scaled: ten to the power of the diagram's decimals.
-pub fn scale_of(diagram: &Diagram) -> u128
-    ensures scale { result ≡ 10 ^ diagram.now.decimals }
-    ensures some { 0 < result }
-{
-    10u128.pow(diagram.decimals())
 }
 
 /// Whether the fraction, which is in lowest terms, is that one. Cross products might not fit.
@@ -147,5 +139,5 @@ pub(crate) fn answer_fault(
     let states = diagram.states(decision);
     let base = base_of(alloc, diagram, relevance, chosen, decision)?;
     let sums = scope_sums(alloc, diagram, &base, decision)?;
-    Ok(first_fault(rows, &sums, states, scale_of(diagram)))
+    Ok(first_fault(rows, &sums, states, diagram.scale()))
 }

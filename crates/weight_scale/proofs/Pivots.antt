@@ -4,9 +4,9 @@ use Rattle.std.specs.Int.{IsGcd, ◌∣◌}
 use Rattle.std.proofs.Math.Numerals.{add-one}
 use Rattle.std.proofs.Math.Seq.{drop-cons}
 use Rattle.std.proofs.Math.Nat.{pos_of_ne-zero, eq-zero_of_zero-dvd, eq_of_mul-eq-mul_right}
-use Rattle.std.proofs.lemmas.Nat.Gcd.{dvd-zero, dvd_refl}
+use Rattle.std.proofs.lemmas.Nat.Gcd.{dvd_refl}
 use Rattle.std.proofs.lemmas.List.{take_more}
-use Rattle.std.proofs.lemmas.List.Elements.{All-nil, All-cons, All-tail, All-push, All-weaker}
+use Rattle.std.proofs.lemmas.List.Elements.{All-cons, All-tail, All-push, All-weaker}
 use Rattle.weight_scale.specs.declared.decimal.Decimal.{Decimal}
 use Rattle.weight_scale.specs.Scaling.{whole_number, IsGreatestDivisor}
 use Rattle.weight_scale.specs.Rows.{IsFinest, IsFiner}
@@ -15,13 +15,6 @@ use Rattle.weight_scale.proofs.Lists.{all_front, all_last, all_unmapped, sum_nou
 use Rattle.weight_scale.proofs.Divisors.{greatest_step}
 
 -- ---- the finest number
-pub finest_start : IsFinest [] 0 0
-finest_start = record {
-  few = omega arith;
-  most = All-nil (λ d. (unsigned_abs d.m ≡ 0) ⊎ (d.k ≤ 0));
-  divided = λ g _. dvd-zero g;
-  nought = λ _. All-nil (λ d. unsigned_abs d.m ≡ 0);
-}
 
 -- raised by its own decimals a number is its size
 own_size : (d : Decimal) → whole_number d.k d ≡ unsigned_abs d.m

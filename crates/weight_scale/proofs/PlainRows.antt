@@ -101,9 +101,6 @@ module _ (row : List Decimal) (total : ℕ) (none : All (λ d. d.k ≡ 0) row) (
 
 -- ---- all rows
 module _ (rows : List Decimal) (states total : ℕ) (some : 0 < length rows / states) (above : All (λ x. pos 0 ≤ℤ x) (map number rows)) (none : All (λ d. d.k ≡ 0) rows) (plain : (r : ℕ) → r < length rows / states → IsPlainRow (row_at states (map number rows) r) total) where
-  part : ℕ → List Decimal
-  part r = row_at states rows r
-
   plain_at : (r : ℕ) → r < length rows / states → IsPlainRow (map number (row_at states rows r)) total
   plain_at r l = subst (λ row. IsPlainRow row total) (row_map number states rows r) (plain r l)
 

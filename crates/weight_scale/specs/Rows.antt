@@ -2,6 +2,7 @@
 use Rattle.std.specs.Global.{Vec}
 use Rattle.std.specs.Prelude.{◌≡◌, ◌<◌, ◌≤◌, ◌*◌, ◌/◌, ℕ, ℤ, pos, unsigned_abs, List, ◌++◌, map, length, sum, All, ◌⊎◌}
 use Rattle.std.specs.Int.{◌∣◌}
+use Rattle.maid_model.specs.declared.limits.TheConstants.{MOST_DECIMALS}
 use Rattle.maid_model.specs.Diagrams.{greatest_number}
 use Rattle.weight_scale.specs.Scaling.{whole_number, raised_row, row_at, IsReducedRow, IsCommonTotal, multiplied_row}
 use Rattle.weight_scale.specs.declared.decimal.Decimal.{Decimal}
@@ -12,7 +13,7 @@ use Rattle.weight_scale.specs.declared.scaling.ScaleFault.TheVariants.{Negative,
 -- A size, and at most 30 decimals: no number but noughts has more decimals, what divides all numbers, raised by these,
 -- divides the size, and the size is nought only where all numbers are.
 pub record IsFinest (row : List Decimal) (size decimals : ℕ) : Type 0 where
-  pub few : decimals ≤ 30
+  pub few : decimals ≤ MOST_DECIMALS
   pub most : All (λ d. (unsigned_abs d.m ≡ 0) ⊎ (d.k ≤ decimals)) row
   pub divided : (g : ℕ) → All (λ d. g ∣ whole_number decimals d) row → g ∣ size
   pub nought : size ≡ 0 → All (λ d. unsigned_abs d.m ≡ 0) row

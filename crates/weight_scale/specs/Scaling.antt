@@ -1,6 +1,7 @@
 -- The rows of a chance table taken in proportion: reduced rows, their common total, and the weights.
 use Rattle.std.specs.Prelude.{◌≡◌, ◌<◌, ◌≤◌, ◌-◌, ◌*◌, ◌/◌, ◌^◌, ℕ, ℤ, pos, ◌≤ℤ◌, ◌<ℤ◌, unsigned_abs, List, map, length, take, drop, sum, All, slice_index_or}
 use Rattle.std.specs.Int.{◌∣◌}
+use Rattle.maid_model.specs.declared.limits.TheConstants.{MOST_DECIMALS}
 use Rattle.maid_model.specs.Diagrams.{greatest_number}
 use Rattle.weight_scale.specs.Views.{ScaledView}
 use Rattle.weight_scale.specs.declared.decimal.Decimal.{Decimal}
@@ -17,7 +18,7 @@ whole_number decimals d = unsigned_abs d.m * 10 ^ (decimals - d.k)
 
 -- the numbers of a row raised to whole numbers by one power of ten: none has more than 30 decimals
 abbrev pub raised : List Decimal → List ℕ
-raised row = map (whole_number 30) row
+raised row = map (whole_number MOST_DECIMALS) row
 
 -- those of row r
 abbrev pub raised_row : ℕ → List Decimal → ℕ → List ℕ

@@ -2,6 +2,7 @@
 
 ghost use Rattle.std.specs.Prelude.{◌≡◌, ◌<◌, ◌≤◌, ◌+◌, ◌*◌, ◌/◌, ◌^◌, ◌++◌, All, IfOk, IfErr, OnOk, length, map, pos, sum};
 ghost use Rattle.std.specs.Int.{◌∣◌};
+ghost use Rattle.maid_model.specs.declared.limits.TheConstants.{MOST_DECIMALS};
 ghost use Rattle.maid_model.specs.Diagrams.{greatest_number};
 ghost use Rattle.weight_scale.specs.Range.{IsWithinRange};
 ghost use Rattle.weight_scale.specs.Scaling.{raised, whole_number, row_at, IsGreatestDivisor};
@@ -84,7 +85,7 @@ fn push_shares(
     decimals: u32,
     divisor: u128,
 ) -> Result<u128, ScaleFault>
-    requires decimals { decimals ≤ 30 }
+    requires decimals { decimals ≤ MOST_DECIMALS }
     requires positive { 0 < divisor }
     requires divides { All (λ d. divisor ∣ whole_number decimals d) row.now }
     ensures ok { IfOk result (AppendsRowShares reduced.old reduced.new decimals divisor row.now) }
@@ -108,7 +109,7 @@ fn push_shares(
 
 // The number's size, raised by 10^decimals, if it isn't too great. Most numbers have as many decimals, and take no tens.
 fn raised(number: Decimal, decimals: u32) -> Option<u128>
-    requires { decimals ≤ 30 }
+    requires { decimals ≤ MOST_DECIMALS }
     ensures { IsWithinRange result (whole_number decimals number) }
 {
     let size = number.m.unsigned_abs();
@@ -121,7 +122,7 @@ fn raised(number: Decimal, decimals: u32) -> Option<u128>
 // Appends the row's numbers, raised, and gives their total: no number is divided, as in most rows.
 #[inline(never)]
 fn push_raised(reduced: &mut Vec<u128>, row: &[Decimal], decimals: u32) -> Result<u128, ScaleFault>
-    requires { decimals ≤ 30 }
+    requires { decimals ≤ MOST_DECIMALS }
     ensures ok { IfOk result (AppendsRowShares reduced.old reduced.new decimals 1 row.now) }
     ensures err { IfErr result (λ fault.
         OnWide fault (AreWideShares decimals 1 row.now)) }
@@ -147,7 +148,7 @@ fn push_row(
     decimals: u32,
     divisor: u128,
 ) -> Result<u128, ScaleFault>
-    requires decimals { decimals ≤ 30 }
+    requires decimals { decimals ≤ MOST_DECIMALS }
     requires positive { 0 < divisor }
     requires divides { All (λ d. divisor ∣ whole_number decimals d) row.now }
     ensures ok { IfOk result (AppendsRowShares reduced.old reduced.new decimals divisor row.now) }

@@ -8,11 +8,13 @@ use Rattle.whole_num.specs.Divisors.{IsGcd}
 use Rattle.whole_num.specs.Fractions.{IsSameFraction, IsInLowestTerms}
 use Rattle.whole_num.proofs.Multiples.{gcd_positive, cross, coprime, quotient_positive}
 
-neg_mul : (q d : ℕ) → neg_ℤ (pos q) *ℤ pos d ≡ neg_ℤ (pos (q * d))
+-- a product with a number below nought
+pub neg_mul : (q d : ℕ) → neg_ℤ (pos q) *ℤ pos d ≡ neg_ℤ (pos (q * d))
 neg_mul zero d = rw zero-mul refl
 neg_mul (suc q) d = refl
 
-abs_neg : (q : ℕ) → unsigned_abs (neg_ℤ (pos q)) ≡ q
+-- the size of a number below nought
+pub abs_neg : (q : ℕ) → unsigned_abs (neg_ℤ (pos q)) ≡ q
 abs_neg zero = refl
 abs_neg (suc q) = refl
 

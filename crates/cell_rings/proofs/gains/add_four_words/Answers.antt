@@ -5,7 +5,7 @@ use Rattle.cell_rings.specs.Kinds.{gain_kind}
 use Rattle.cell_rings.specs.Words.{of_word, word_size}
 use Rattle.cell_rings.specs.declared.gains.Gain.{Gain}
 use Rattle.cell_rings.specs.declared.gains.Word.{Word}
-use Rattle.cell_rings.specs.declared.pairs.Pair.{Pair}
+use Rattle.cell_rings.specs.declared.pairs.RunPair.{RunPair}
 use Rattle.cell_rings.proofs.Runs.{run_room, run_step, sum_is}
 use Rattle.cell_rings.proofs.Together.{AreFactors, two_size, four_size}
 use Rattle.cell_rings.proofs.gains.add_four_words.Goals as goal
@@ -14,7 +14,7 @@ factors : AreFactors gain_kind of_word word_size
 factors = record { laws = gain_laws; sizes = gain_sizes; same = λ a. refl }
 
 -- room for the next cells of the four runs
-four_room : (n at : ℕ) (cells : List Gain) (one other : Pair Word) {xs now : List Gain} → HasRoomForFour gain_kind word_size xs at n cells one other → (i : ℕ) → i < n → AddsFour gain_kind of_word xs now at i cells one other → gain_kind.size (cell_at gain_kind now (at + i)) + four_sizes gain_kind word_size cells one other i ≤ gain_kind.most
+four_room : (n at : ℕ) (cells : List Gain) (one other : RunPair Word) {xs now : List Gain} → HasRoomForFour gain_kind word_size xs at n cells one other → (i : ℕ) → i < n → AddsFour gain_kind of_word xs now at i cells one other → gain_kind.size (cell_at gain_kind now (at + i)) + four_sizes gain_kind word_size cells one other i ≤ gain_kind.most
 four_room n at cells one other room i h adds =
     run_room gain_laws gain_sizes n at (four_scaled gain_kind of_word cells one other) (four_sizes gain_kind word_size cells one other) (four_size factors cells one other) room i h adds
 

@@ -5,7 +5,7 @@ use Rattle.maid_model.specs.declared.answers.Ratio.{Ratio}
 use Rattle.evidence.specs.Conditional.{HasGainsGiven}
 use Rattle.evidence.specs.Stakes.{HasWorthsAt}
 use Rattle.evidence.proofs.Conditional.{expected_is, gains_push, stake}
-use Rattle.evidence.proofs.StakeLemmas.{scale_some}
+use Rattle.scope_sums.proofs.Shares.{scale_some}
 use Rattle.evidence.proofs.sums.list_gains.Goals as goal
 
 pub expected-requires : goal.expected-requires

@@ -1,7 +1,7 @@
 use Rattle.std.proofs.Common.{◌≡◌, ◌∙◌, ◌++◌, ◌<◌, ◌^◌, ℕ, List, arith, ap, drop, length, refl, slice_index, subst, sym, take}
 use Rattle.std.proofs.lemmas.Grind.{common_steps}
 use Rattle.maid_model.specs.Views.{AnswerView}
-use Rattle.maid_model.specs.Answers.{IsExpectedUtility, pure_profile}
+use Rattle.maid_model.specs.Answers.{AreChoices, IsExpectedUtility, pure_profile}
 use Rattle.maid_model.specs.Subgames.{OwnsAll}
 use Rattle.maid_model.specs.Nodes.{decisions_of}
 use Rattle.rule_solver.specs.Masses.{HasGains}
@@ -9,7 +9,6 @@ use Rattle.rule_solver.specs.Rooms.{AreReady}
 use Rattle.size_precheck.specs.Decisions.{ArePlans}
 use Rattle.reach_laws.specs.Updates.{IsReachedAfter, IsUpdated}
 use Rattle.policy_update.specs.Steps.{EndsAt, IsSettled}
-use Rattle.policy_update.specs.Updated.{AreChoices}
 use Rattle.policy_update.proofs.Owners.{decision_at, owns_like}
 use Rattle.policy_update.proofs.Plans.{first_plan, first_start, plan_pure}
 use Rattle.policy_update.proofs.Rising.{some_decision}

@@ -33,12 +33,12 @@ pub overflow_mul-mass : goal.overflow_mul-mass
 overflow_mul-mass c =
     let small = (weighed c.args.diagram.now c.args.chosen.now c.args.agent c.count-count.ensures.diagram c.requires.bound c.requires.chosen c.requires.pure c.requires.agent
     c.in_ok-part.part.diagram c.deref.result.now c.in_ok-rules.rules c.in_ok-part.ensures.diagram (c.deref.ensures.value ∙ c.in_ok-part.ensures.nodes) c.in_ok-rules.ensures).scaled_fits in
-    let same : c.mass_of-mass.result * c.scale_of.result ≡ mass c.in_ok-part.part.diagram.nodes c.in_ok-rules.rules * 10 ^ c.args.diagram.now.decimals = (λ i. c.mass_of-mass.ensures i * c.scale_of.ensures.scale i) in
+    let same : c.mass_of-mass.result * c.scale.result ≡ mass c.in_ok-part.part.diagram.nodes c.in_ok-rules.rules * 10 ^ c.args.diagram.now.decimals = (λ i. c.mass_of-mass.ensures i * c.scale.ensures.scale i) in
     omega (arith, small, same)
 
-pub fraction-requires-clause-den : goal.fraction-requires-clause-den
-fraction-requires-clause-den c =
-    subst (λ n. 0 < n) (λ i. sym c.mass_of-mass.ensures i * sym c.scale_of.ensures.scale i)
+pub reduced-requires-clause-den : goal.reduced-requires-clause-den
+reduced-requires-clause-den c =
+    subst (λ n. 0 < n) (λ i. sym c.mass_of-mass.ensures i * sym c.scale.ensures.scale i)
     ((weighed c.args.diagram.now c.args.chosen.now c.args.agent c.count-count.ensures.diagram c.requires.bound c.requires.chosen c.requires.pure c.requires.agent
     c.in_ok-part.part.diagram c.deref.result.now c.in_ok-rules.rules c.in_ok-part.ensures.diagram (c.deref.ensures.value ∙ c.in_ok-part.ensures.nodes) c.in_ok-rules.ensures).scaled_positive)
 
@@ -46,9 +46,9 @@ pub returns : goal.returns
 returns c =
     let told = (weighed c.args.diagram.now c.args.chosen.now c.args.agent c.count-count.ensures.diagram c.requires.bound c.requires.chosen c.requires.pure c.requires.agent
     c.in_ok-part.part.diagram c.deref.result.now c.in_ok-rules.rules c.in_ok-part.ensures.diagram (c.deref.ensures.value ∙ c.in_ok-part.ensures.nodes) c.in_ok-rules.ensures).worth in
-    let same : c.mass_of-mass.result * c.scale_of.result ≡ mass c.in_ok-part.part.diagram.nodes c.in_ok-rules.rules * 10 ^ c.args.diagram.now.decimals = (λ i. c.mass_of-mass.ensures i * c.scale_of.ensures.scale i) in
+    let same : c.mass_of-mass.result * c.scale.result ≡ mass c.in_ok-part.part.diagram.nodes c.in_ok-rules.rules * 10 ^ c.args.diagram.now.decimals = (λ i. c.mass_of-mass.ensures i * c.scale.ensures.scale i) in
     let fits : FitsSigned w128 c.in_ok-sum.sum = search rules in
     let sum : to_z w128 (of_z w128 c.in_ok-sum.sum) ≡ gain_of c.in_ok-part.part.diagram.nodes c.in_ok-rules.rules c.args.agent = to_z-of_z w128 c.in_ok-sum.sum fits ∙ c.in_ok-sum.ensures.sum in
-    told c.fraction.result
-    (subst (IsFraction c.fraction.result (gain_of c.in_ok-part.part.diagram.nodes c.in_ok-rules.rules c.args.agent)) same
-    (subst (λ n. IsFraction c.fraction.result n (c.mass_of-mass.result * c.scale_of.result)) sum c.fraction.ensures))
+    told c.reduced.result
+    (subst (IsFraction c.reduced.result (gain_of c.in_ok-part.part.diagram.nodes c.in_ok-rules.rules c.args.agent)) same
+    (subst (λ n. IsFraction c.reduced.result n (c.mass_of-mass.result * c.scale.result)) sum c.reduced.ensures))

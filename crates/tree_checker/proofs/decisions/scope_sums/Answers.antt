@@ -14,15 +14,15 @@ use Rattle.tree_checker.specs.declared.decisions.RowSums.{RowSums}
 use Rattle.tree_checker.proofs.ScopeParts.{decision_there}
 use Rattle.tree_checker.proofs.decisions.scope_sums.Goals as goal
 
-pub stage_of-requires-clause-of : goal.stage_of-requires-clause-of
-stage_of-requires-clause-of c v m =
+pub ruled_part-requires-clause-of : goal.ruled_part-requires-clause-of
+ruled_part-requires-clause-of c v m =
     targets_inside c.args.diagram.now.nodes c.count-count.ensures.diagram.graph c.args.decision c.requires.decision v
     (among_of v (c.args.decision ∷ goals_of c.args.diagram.now.nodes c.args.decision) (subst (λ l. Contains l v) (c.deref.ensures.value ∙ c.in_ok-ends.ensures) m))
 
 pub place_of-place-requires : goal.place_of-place-requires
 place_of-place-requires c =
     subst (λ l. Contains l c.args.decision)
-    (sym (c.deref-2.ensures.value ∙ c.in_ok-stage.ensures.nodes ∙ ap (with_ancestors c.args.diagram.now.nodes) (c.deref.ensures.value ∙ c.in_ok-ends.ensures)))
+    (sym (c.deref-2.ensures.value ∙ c.in_ok-ruled.ensures.nodes ∙ ap (with_ancestors c.args.diagram.now.nodes) (c.deref.ensures.value ∙ c.in_ok-ends.ensures)))
     (c.scopes_are_parts.ensures.decisions c.args.diagram.now.nodes c.args.decision c.count-count.ensures.diagram.graph c.requires.decision).2
 
 -- what sums over a diagram's worlds ask for
@@ -49,8 +49,8 @@ sums_over-requires c =
       profile = c.parts_are_diagrams.ensures.profiles d.nodes c.args.base.now (scope_of d.nodes v) c.requires.base (c.scopes_are_parts.ensures.decisions d.nodes v g c.requires.decision).0;
       fits = (fit.0 v c.requires.decision c.requires.rules).call;
     } in
-    let here = can_sum c.in_ok-stage.stage.part.diagram (part_diagram d (scope_of d.nodes v)) c.in_ok-stage.stage.rules (rules_in d.nodes c.args.base.now (scope_of d.nodes v)) c.place_of-place.result (place_in (scope_of d.nodes v) v)
-    (c.in_ok-stage.ensures.diagram ∙ ap (part_diagram d) scope) (c.in_ok-stage.ensures.rules ∙ ap (rules_in d.nodes c.args.base.now) scope) (c.place_of-place.ensures ∙ ap (λ l. place_in l v) (c.deref-2.ensures.value ∙ c.in_ok-stage.ensures.nodes ∙ scope)) can in
+    let here = can_sum c.in_ok-ruled.ruled.part.diagram (part_diagram d (scope_of d.nodes v)) c.in_ok-ruled.ruled.rules (rules_in d.nodes c.args.base.now (scope_of d.nodes v)) c.place_of-place.result (place_in (scope_of d.nodes v) v)
+    (c.in_ok-ruled.ensures.diagram ∙ ap (part_diagram d) scope) (c.in_ok-ruled.ensures.rules ∙ ap (rules_in d.nodes c.args.base.now) scope) (c.place_of-place.ensures ∙ ap (λ l. place_in l v) (c.deref-2.ensures.value ∙ c.in_ok-ruled.ensures.nodes ∙ scope)) can in
     record { decision = here.decision; profile = here.profile; fits = here.fits }
 
 pub returns : goal.returns
@@ -58,8 +58,8 @@ returns c =
     let d = c.args.diagram.now in
     let v = c.args.decision in
     let scope : with_ancestors d.nodes c.deref.result.now ≡ scope_of d.nodes v = ap (with_ancestors d.nodes) (c.deref.ensures.value ∙ c.in_ok-ends.ensures) in
-    mapped c.sums_over.result (lists c.in_ok-stage.stage.part.diagram (part_diagram d (scope_of d.nodes v)) c.in_ok-stage.stage.rules (rules_in d.nodes c.args.base.now (scope_of d.nodes v)) c.place_of-place.result (place_in (scope_of d.nodes v) v)
-    (c.in_ok-stage.ensures.diagram ∙ ap (part_diagram d) scope) (c.in_ok-stage.ensures.rules ∙ ap (rules_in d.nodes c.args.base.now) scope) (c.place_of-place.ensures ∙ ap (λ l. place_in l v) (c.deref-2.ensures.value ∙ c.in_ok-stage.ensures.nodes ∙ scope))) c.sums_over.ensures
+    mapped c.sums_over.result (lists c.in_ok-ruled.ruled.part.diagram (part_diagram d (scope_of d.nodes v)) c.in_ok-ruled.ruled.rules (rules_in d.nodes c.args.base.now (scope_of d.nodes v)) c.place_of-place.result (place_in (scope_of d.nodes v) v)
+    (c.in_ok-ruled.ensures.diagram ∙ ap (part_diagram d) scope) (c.in_ok-ruled.ensures.rules ∙ ap (rules_in d.nodes c.args.base.now) scope) (c.place_of-place.ensures ∙ ap (λ l. place_in l v) (c.deref-2.ensures.value ∙ c.in_ok-ruled.ensures.nodes ∙ scope))) c.sums_over.ensures
   where
     mapped : {E : Type 0} {P Q : RowSums → Type 0} (r : Result RowSums E) → ((s : RowSums) → P s → Q s) → IfOk r P → IfOk r Q
     mapped (Ok s) f h = f s h

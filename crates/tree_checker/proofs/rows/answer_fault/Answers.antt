@@ -39,8 +39,8 @@ returns c =
           (λ row. c.parts_decide.ensures.choices d.nodes base (scope_of d.nodes v) v row g t c.in_ok-base.ensures.profile scope.0 c.requires.decision scope.2 scope.3)
           (λ row. c.law_of_parts.ensures.masses d.nodes base (scope_of d.nodes v) v row g t c.in_ok-base.ensures.profile scope.0 c.requires.decision scope.2)
           c.args.rows.now c.requires.count (λ row l. c.requires.choices row no_row l) c.first_fault.result
-          (subst (λ n. JudgesRows (PassesListed c.in_ok-sums.sums.gains.items c.in_ok-sums.sums.masses.items (states_of d.nodes v) n) (FailsListed c.in_ok-sums.sums.gains.items c.in_ok-sums.sums.masses.items (states_of d.nodes v) n) c.args.rows.now c.first_fault.result) c.scale_of.ensures.scale
-          (subst (λ n. JudgesRows (PassesListed c.in_ok-sums.sums.gains.items c.in_ok-sums.sums.masses.items n c.scale_of.result) (FailsListed c.in_ok-sums.sums.gains.items c.in_ok-sums.sums.masses.items n c.scale_of.result) c.args.rows.now c.first_fault.result) c.states-states.ensures.states c.first_fault.ensures));
+          (subst (λ n. JudgesRows (PassesListed c.in_ok-sums.sums.gains.items c.in_ok-sums.sums.masses.items (states_of d.nodes v) n) (FailsListed c.in_ok-sums.sums.gains.items c.in_ok-sums.sums.masses.items (states_of d.nodes v) n) c.args.rows.now c.first_fault.result) c.scale.ensures.scale
+          (subst (λ n. JudgesRows (PassesListed c.in_ok-sums.sums.gains.items c.in_ok-sums.sums.masses.items n c.scale.result) (FailsListed c.in_ok-sums.sums.gains.items c.in_ok-sums.sums.masses.items n c.scale.result) c.args.rows.now c.first_fault.result) c.states-states.ensures.states c.first_fault.ensures));
     }
 
 pub base_of-requires-clause-decision : goal.base_of-requires-clause-decision
@@ -74,4 +74,4 @@ pub first_fault-requires-clause-reduced : goal.first_fault-requires-clause-reduc
 first_fault-requires-clause-reduced c = c.requires.reduced
 
 pub first_fault-requires-clause-scale : goal.first_fault-requires-clause-scale
-first_fault-requires-clause-scale c = c.scale_of.ensures.some
+first_fault-requires-clause-scale c = c.scale.ensures.some

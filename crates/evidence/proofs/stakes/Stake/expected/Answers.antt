@@ -15,8 +15,8 @@ overflow_mul-mass c =
     subst (λ n. n ≤ greatest_number) (sym (λ i. c.mass-mass.ensures i * c.scale.ensures.scale i)) (scaled_small s.diagram.now s.node s.agent s.mass s.worths.now s.scope c.requires.stake) in
     omega (arith, small)
 
-pub fraction-requires-clause-den : goal.fraction-requires-clause-den
-fraction-requires-clause-den c =
+pub reduced-requires-clause-den : goal.reduced-requires-clause-den
+reduced-requires-clause-den c =
     let s = c.args.self.now in
     mul-pos (subst (λ n. 0 < n) (sym c.mass-mass.ensures) (mass_positive s.diagram.now s.node s.agent s.mass s.worths.now s.scope c.requires.stake)) c.scale.ensures.some
 
@@ -25,5 +25,5 @@ returns c =
     let s = c.args.self.now in
     let fits : FitsSigned w128 c.gain.result = search rules in
     let den : c.mass-mass.result * c.scale.result ≡ scope_mass_given s.diagram.now.nodes s.node s.agent s.mass * 10 ^ s.diagram.now.decimals = (λ i. c.mass-mass.ensures i * c.scale.ensures.scale i) in
-    subst (λ n. IsFraction c.fraction.result n (scope_mass_given s.diagram.now.nodes s.node s.agent s.mass * 10 ^ s.diagram.now.decimals)) (to_z-of_z w128 c.gain.result fits ∙ c.gain.ensures.gain)
-    (subst (IsFraction c.fraction.result _) den c.fraction.ensures)
+    subst (λ n. IsFraction c.reduced.result n (scope_mass_given s.diagram.now.nodes s.node s.agent s.mass * 10 ^ s.diagram.now.decimals)) (to_z-of_z w128 c.gain.result fits ∙ c.gain.ensures.gain)
+    (subst (IsFraction c.reduced.result _) den c.reduced.ensures)

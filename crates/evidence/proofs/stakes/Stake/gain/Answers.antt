@@ -4,8 +4,9 @@ use Rattle.std.specs.List.{range_with_len}
 use Rattle.std.proofs.lemmas.Int.{to_z-of_z}
 use Rattle.finite_sums.specs.Sums.{sum_each}
 use Rattle.maid_model.specs.Diagrams.{greatest_number}
+use Rattle.scope_sums.proofs.Shares.{fits_number, sum_next}
 use Rattle.evidence.specs.Stakes.{share_given}
-use Rattle.evidence.proofs.StakeLemmas.{fits_number, sum_next, sum_small}
+use Rattle.evidence.proofs.StakeLemmas.{sum_small}
 use Rattle.evidence.proofs.stakes.Stake.gain.Goals as goal
 use Rattle.evidence.proofs.stakes.Stake.gain.Goals.{After-given_by-gain}
 

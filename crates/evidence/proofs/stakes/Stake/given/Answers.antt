@@ -2,9 +2,10 @@ use Rattle.std.proofs.Common.{◌≡◌, ◌∙◌, ◌≤◌, ◌*ℤ◌, Some,
 use Rattle.std.specs.Int.{w128}
 use Rattle.std.proofs.lemmas.Int.{to_z-of_z}
 use Rattle.maid_model.specs.Diagrams.{greatest_number}
+use Rattle.scope_sums.proofs.Shares.{fits_number, product_value}
 use Rattle.evidence.specs.Stakes.{chances_lacking}
 use Rattle.evidence.proofs.Left.{left_utility}
-use Rattle.evidence.proofs.StakeLemmas.{fits_number, gives, lacking_small, product_value, times_small, worth_times}
+use Rattle.evidence.proofs.StakeLemmas.{gives, lacking_small, times_small, worth_times}
 use Rattle.evidence.proofs.stakes.Stake.given.Goals as goal
 use Rattle.evidence.proofs.stakes.Stake.given.Goals.{After-chance_product}
 

@@ -20,8 +20,8 @@ overflow_mul-mass c =
     subst (λ n. n ≤ greatest_number) (sym (λ i. c.product_in-mass.ensures i * c.scale.ensures.scale i)) (scaled_small s.diagram.now s.profile.now s.agent s.totals.now s.worths.now s.scope c.requires.stake) in
     omega (arith, small)
 
-pub fraction-requires-clause-den : goal.fraction-requires-clause-den
-fraction-requires-clause-den c =
+pub reduced-requires-clause-den : goal.reduced-requires-clause-den
+reduced-requires-clause-den c =
     let s = c.args.self.now in
     mul-pos (subst (λ n. 0 < n) (sym c.product_in-mass.ensures) (total_positive s.diagram.now s.profile.now s.agent s.totals.now s.worths.now s.scope c.requires.stake)) c.scale.ensures.some
 
@@ -30,6 +30,6 @@ returns c =
     let s = c.args.self.now in
     let fits : FitsSigned w128 c.gain.result = record { sfits = c.gain.type_inv } in
     let den : c.product_in-mass.result * c.scale.result ≡ product_in s.totals.now s.scope * 10 ^ s.diagram.now.decimals = (λ i. c.product_in-mass.ensures i * c.scale.ensures.scale i) in
-    whole_fraction s.diagram.now s.profile.now s.agent s.totals.now s.worths.now s.scope c.requires.stake c.plans_sum_scopes.ensures.mass c.scopes_are_parts.ensures.agents c.parts_decide.ensures.worths c.fraction.result
-    (subst (λ n. IsFraction c.fraction.result n (product_in s.totals.now s.scope * 10 ^ s.diagram.now.decimals)) (to_z-of_z w128 c.gain.result fits ∙ c.gain.ensures.gain)
-    (subst (IsFraction c.fraction.result _) den c.fraction.ensures))
+    whole_fraction s.diagram.now s.profile.now s.agent s.totals.now s.worths.now s.scope c.requires.stake c.plans_sum_scopes.ensures.mass c.scopes_are_parts.ensures.agents c.parts_decide.ensures.worths c.reduced.result
+    (subst (λ n. IsFraction c.reduced.result n (product_in s.totals.now s.scope * 10 ^ s.diagram.now.decimals)) (to_z-of_z w128 c.gain.result fits ∙ c.gain.ensures.gain)
+    (subst (IsFraction c.reduced.result _) den c.reduced.ensures))

@@ -4,8 +4,9 @@ use Rattle.std.specs.List.{range_with_len}
 use Rattle.std.proofs.lemmas.Int.{to_z-of_z}
 use Rattle.finite_sums.specs.Sums.{sum_each}
 use Rattle.maid_model.specs.Diagrams.{greatest_number}
+use Rattle.scope_sums.proofs.Shares.{fits_number, sum_next}
 use Rattle.rule_solver.specs.Worths.{share_for}
-use Rattle.rule_solver.proofs.StakeLemmas.{fits_number, sum_is, sum_next, sum_small}
+use Rattle.rule_solver.proofs.StakeLemmas.{sum_is, sum_small}
 use Rattle.rule_solver.proofs.worths.Stake.gain.Goals as goal
 use Rattle.rule_solver.proofs.worths.Stake.gain.Goals.{After-given_by-gain}
 

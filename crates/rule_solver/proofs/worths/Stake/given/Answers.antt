@@ -2,7 +2,8 @@ use Rattle.std.proofs.Common.{◌≡◌, ◌∙◌, ◌≤◌, ◌*ℤ◌, pos, 
 use Rattle.std.specs.Int.{w128}
 use Rattle.std.proofs.lemmas.Int.{to_z-of_z}
 use Rattle.maid_model.specs.Diagrams.{greatest_number}
-use Rattle.rule_solver.proofs.StakeLemmas.{missing_at, worth_times, left_product, missing_small, times_small, gives, fits_number, product_value}
+use Rattle.scope_sums.proofs.Shares.{fits_number, product_value}
+use Rattle.rule_solver.proofs.StakeLemmas.{missing_at, worth_times, left_product, missing_small, times_small, gives}
 use Rattle.rule_solver.proofs.worths.Stake.given.Goals as goal
 use Rattle.rule_solver.proofs.worths.Stake.given.Goals.{After-product_in}
 
