@@ -17,6 +17,7 @@ use maid_laws::answers_are_best;
 use maid_model::{Diagram, Ratio, Solved};
 use reach_laws::{held_is_perfect, stays_best};
 use std::alloc::Global;
+use whole_num::reduce;
 
 /// A probability and the ends of the interval in which it may move, in lowest terms.
 #[derive(Clone, Copy, Debug, PartialEq, Eq)]
@@ -35,7 +36,8 @@ fn fraction(num: u128, den: u128) -> Ratio
     requires num { num < 2 ^ 127 }
     ensures { IsFraction result (pos num) den }
 {
-    Ratio::reduced(num as i128, den)
+    let (num, den) = reduce(num as i128, den);
+    Ratio { num, den }
 }
 
 /// How far the probability of the state in the row of the chance node's table may move while the
