@@ -66,4 +66,5 @@ def main():
     sys.exit(0 if alike else 1)
 
 
-main()
+if __name__ == "__main__":
+    main()

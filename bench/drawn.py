@@ -1,4 +1,4 @@
-"""Random small diagrams, nearly all of which the grammar and the limits allow."""
+"""Random diagrams: small ones, nearly all of which the grammar and the limits allow, and large ones, which all do."""
 
 from math import prod
 
@@ -58,3 +58,42 @@ def drawn(chance):
     texts = [*zip(blocks, potentials)]
     chance.shuffle(texts)
     return "".join([block for block, _ in texts] + [potential for _, potential in texts]).encode()
+
+
+def even_row(chance, states):
+    """Weights that add up to four."""
+    weights = [0] * states
+    for _ in range(4):
+        weights[chance.randrange(states)] += 1
+    return weights
+
+
+def large(chance):
+    """The text of a random diagram of 30 to 150 nodes in their order and a few utilities, of one to three owners."""
+    count, agents = chance.choice([30, 60, 100, 150]), chance.choice([1, 1, 2, 3])
+    most, reach = chance.choice([2, 3, 5]), chance.choice([5, 10, 150])
+    decisions = chance.choice([0.1, 0.3, 0.5])
+    blocks, potentials, states = [], [], []
+
+    def add(kind, name, parents, table):
+        owner = f' agent = "{AGENTS[chance.randrange(agents)]}";' if kind != "node" else ""
+        labels = "".join(f' "{state}"' for state in range(states[-1])) if kind != "utility" else ""
+        blocks.append(f"{kind} {name} {{{owner}" + (f" states = ({labels[1:]});" if labels else "") + " }\n")
+        head = f"{name} |" + "".join(f" N{parent}" for parent in parents) if parents else name
+        data = " ".join(str(number) for number in table)
+        potentials.append(f"potential ({head}) {{" + (f" data = ({data});" if data else "") + " }\n")
+
+    for node in range(count):
+        nearest = range(max(0, node - reach), node)
+        parents = sorted(chance.sample(nearest, min(len(nearest), chance.randint(0, most))))
+        rows = prod(states[parent] for parent in parents)
+        states.append(chance.choice([2, 2, 3]))
+        if chance.random() < decisions:
+            add("decision", f"N{node}", parents, [])
+        else:
+            add("node", f"N{node}", parents, [weight for _ in range(rows) for weight in even_row(chance, states[-1])])
+    for utility in range(chance.choice([5, 20, 50])):
+        parents = sorted(chance.sample(range(count), chance.randint(1, 3)))
+        rows = prod(states[parent] for parent in parents)
+        add("utility", f"U{utility}", parents, [chance.randint(-9, 9) for _ in range(rows)])
+    return "".join(blocks + potentials).encode()
