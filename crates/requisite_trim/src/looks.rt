@@ -7,11 +7,15 @@ ghost use Rattle.requisite_trim.specs.Steps.{TellsFirstUnneeded, TellsFirstUnnee
 use bayes_ball::reach_from_goals;
 use maid_model::Diagram;
 
-/// The first parent of the decision that is not requisite. It searches once for all parents.
+/// The first parent of the decision that is not requisite. It searches once for all parents, and not at all where there
+/// is none.
 fn first_unneeded(diagram: &Diagram, decision: usize) -> Option<usize>
     requires { IsDecision diagram.now.nodes decision }
     ensures { TellsFirstUnneeded diagram.now.nodes decision result }
 {
+    if diagram.parents(decision).is_empty() {
+        return None;
+    }
     let marks = reach_from_goals(diagram, decision);
     for parent in diagram.parents(decision) {
         if !marks.reached(*parent) {

@@ -1,10 +1,15 @@
-use Rattle.std.proofs.Common.{◌∙◌, ℕ, get_or, sym, arith}
+use Rattle.std.proofs.Common.{◌≡◌, ◌∙◌, ℕ, length, get_or, sym, arith, eqb-true}
 use Rattle.std.proofs.lemmas.Bool.{false≢true}
 use Rattle.std.proofs.lemmas.List.Elements.{Contains-get_or}
 use Rattle.maid_model.specs.Relevance.{IsRequisite}
 use Rattle.requisite_trim.proofs.Looking.{below_more, first_at, all_seen}
 use Rattle.requisite_trim.proofs.Requisites.{requisites_told}
 use Rattle.requisite_trim.proofs.looks.first_unneeded.Goals as goal
+
+pub returns-then-is_empty : goal.returns-then-is_empty
+returns-then-is_empty c =
+    let none : length c.parents.result.now ≡ 0 = eqb-true (length c.parents.result.now) 0 (sym c.is_empty.ensures ∙ c.if-is_empty.true) in
+    all_seen c.args.diagram.now.nodes c.args.decision c.parents.result.now c.parents.ensures.parents 0 (omega (arith, none)) (λ k l. absurd (omega (arith, l)))
 
 pub reached-requires : goal.reached-requires
 reached-requires c =
