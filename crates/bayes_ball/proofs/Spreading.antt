@@ -1,13 +1,14 @@
--- Steps of a search, one after another.
-use Rattle.std.proofs.Common.{◌≡◌, ℕ, ◌+◌, ◌<◌, ◌≤◌, Bool, true, false, ◌||◌, List, length, take, get_or, ◌⊎◌, ◌↔◌, inl, inr, refl, subst, sym, ◌∙◌, arith}
-use Rattle.std.specs.Prelude.{Contains}
-use Rattle.std.proofs.lemmas.Bool.{cases_eq}
+-- Waves of a search, one after another.
+use Rattle.std.proofs.Common.{◌≡◌, ℕ, ◌+◌, ◌<◌, ◌≤◌, ◌||◌, Bool, true, false, List, ◌⊎◌, ◌↔◌, inl, inr, refl, subst, sym, ap, ◌∙◌, arith}
+use Rattle.std.proofs.lemmas.Bool.{false≢true}
 use Rattle.maid_model.specs.Views.{NodeView}
+use Rattle.maid_model.specs.Graph.{Arc}
+use Rattle.maid_model.specs.Relevance.{IsLive}
 use Rattle.node_sets.specs.declared.sets.NodeSet.{NodeSet}
-use Rattle.node_sets.specs.Sets.{IsIn, room, Adds}
-use Rattle.node_sets.proofs.Growing.{first_more}
-use Rattle.bayes_ball.specs.Flow.{Way, Up, Down, Flows, Begin, Forward, Back, Bounce, IsClosed}
-use Rattle.bayes_ball.specs.Spread.{IsMarked, IsSpread, LiveArc, LeadsDown, LeadsUp, HearsAll, TellsAll, ClosedBothInto}
+use Rattle.node_sets.specs.Sets.{holds, IsIn, IsFirstFrom, room}
+use Rattle.node_sets.proofs.Growing.{room_less}
+use Rattle.bayes_ball.specs.Flow.{Way, Up, Down, Flows, Begin, Forward, Back, Bounce}
+use Rattle.bayes_ball.specs.Spread.{IsMarked, LiveArc, LeadsDown, LeadsUp, AreFresh, AreClosed, FlowAllFrom, HandDown, HandUp, GoesDown, GoesUp}
 
 -- what spreads from marks that spread from the start
 pub flows_again : {Arc : ℕ → ℕ → Type 0} {Given : ℕ → Type 0} {Start Next : Way → ℕ → Type 0} {w : Way} {v : ℕ} →
@@ -17,131 +18,162 @@ flows_again s (Forward a n f) = Forward a n (flows_again s f)
 flows_again s (Back a n f) = Back a n (flows_again s f)
 flows_again s (Bounce a g f) = Bounce a g (flows_again s f)
 
-module _ (Arc : ℕ → ℕ → Type 0) (Given : ℕ → Type 0) where
-  pub spread_weaker : (P Q : NodeSet → NodeSet → Type 0) (d u d' u' : NodeSet) (c : Bool) →
-      (P d u → Q d u) → IsSpread Arc Given P d u d' u' c → IsSpread Arc Given Q d u d' u' c
-  spread_weaker P Q d u d' u' c f h = record {
-    kept = h.kept;
-    sound = h.sound;
-    fewer = h.fewer;
-    steady = λ e. ((h.steady e).0, (h.steady e).1, f (h.steady e).2);
-  }
+-- a wave from fresh nodes: what is followed then, and what it reaches
+module _ (nodes : List NodeView) (leading followed fresh followed' : NodeSet) (are : AreFresh nodes leading followed fresh) where
+  pub all_followed : ((v : ℕ) → IsIn followed' v ↔ (IsIn followed v ⊎ IsIn fresh v)) → (v : ℕ) → IsLive nodes v → IsIn leading v → IsIn followed' v
+  all_followed both v live leads = go (holds followed v) refl
+    where
+      go : (b : Bool) → holds followed v ≡ b → IsIn followed' v
+      go true e = (both v).1 (inl e)
+      go false e = (both v).1 (inr ((are v).1 (leads, live, λ k. false≢true (sym e ∙ k))))
 
-  -- nothing changes
-  pub spread_none : (P : NodeSet → NodeSet → Type 0) (d u : NodeSet) → P d u → IsSpread Arc Given P d u d u false
-  spread_none P d u p = record {
-    kept = λ w v m. m;
+  pub more_followed : (x : ℕ) → IsFirstFrom fresh 0 x → ((v : ℕ) → IsIn followed' v ↔ (IsIn followed v ⊎ IsIn fresh v)) → room followed' < room followed
+  more_followed x first both = go (holds followed x) refl
+    where
+      go : (b : Bool) → holds followed x ≡ b → room followed' < room followed
+      go true e = absurd (((are x).0 first.inside).2 e)
+      go false e = room_less followed followed' x first.small (λ v m. (both v).1 (inl m)) e ((both x).1 (inr first.inside))
+
+module _ (nodes : List NodeView) (given down up leading followed fresh : NodeSet) (are : AreFresh nodes leading followed fresh) where
+  -- where no node is fresh, all that lead on were followed
+  none_fresh : ((v : ℕ) → IsIn fresh v → ⊥) → (v : ℕ) → IsLive nodes v → IsIn leading v → IsIn followed v
+  none_fresh none v live leads = go (holds followed v) refl
+    where
+      go : (b : Bool) → holds followed v ≡ b → IsIn followed v
+      go true e = e
+      go false e = absurd (none v ((are v).1 (leads, live, λ k. false≢true (sym e ∙ k))))
+
+  pub no_wave_down : ((v : ℕ) → IsIn leading v ↔ LeadsDown given down up v) → ((v : ℕ) → IsIn fresh v → ⊥) → GoesDown nodes given up down followed down followed false
+  no_wave_down leads none = record {
+    kept = λ v m. m;
     sound = λ w v m. Begin m;
-    steady = λ _. (refl, refl, p);
-    fewer = λ e. cc;
+    handed = λ h. h;
+    all = λ v live lead. none_fresh none v live ((leads v).1 lead);
+    fewer = λ e. absurd (false≢true e);
+    same = λ _. (refl, refl);
   }
 
-  not_more : (P : NodeSet → NodeSet → Type 0) (d u d' u' : NodeSet) (c : Bool) → IsSpread Arc Given P d u d' u' c →
-      room d' + room u' ≤ room d + room u
-  not_more P d u d' u' true h = let l = h.fewer refl in omega arith
-  not_more P d u d' u' false h = let e = h.steady refl in let a : room d' ≡ room d = cc in let b : room u' ≡ room u = cc in omega arith
+  pub no_wave_up : ((v : ℕ) → IsIn leading v ↔ LeadsUp given down up v) → ((v : ℕ) → IsIn fresh v → ⊥) → GoesUp nodes given down up followed up followed false
+  no_wave_up leads none = record {
+    kept = λ v m. m;
+    sound = λ w v m. Begin m;
+    handed = λ h. h;
+    all = λ v live lead. none_fresh none v live ((leads v).1 lead);
+    fewer = λ e. absurd (false≢true e);
+    same = λ _. (refl, refl);
+  }
 
-  pub spread_then : (P Q : NodeSet → NodeSet → Type 0) (d u d' u' d'' u'' : NodeSet) (b c : Bool) →
-      IsSpread Arc Given P d u d' u' b → IsSpread Arc Given Q d' u' d'' u'' c →
-      IsSpread Arc Given (λ x y. P x y × Q x y) d u d'' u'' (b || c)
-  spread_then P Q d u d' u' d'' u'' b c h k = record {
-    kept = λ w v m. k.kept w v (h.kept w v m);
-    sound = λ w v m. flows_again h.sound (k.sound w v m);
-    steady = both_steady b c (h.steady) (k.steady);
-    fewer = both_fewer b c h k;
+  module _ (followed' reached : NodeSet) (x : ℕ) (first : IsFirstFrom fresh 0 x) (both : (v : ℕ) → IsIn followed' v ↔ (IsIn followed v ⊎ IsIn fresh v)) where
+    pub wave_down : (down' : NodeSet) → ((v : ℕ) → IsIn leading v ↔ LeadsDown given down up v) → ((v : ℕ) → IsIn reached v ↔ (((u : ℕ) × IsIn fresh u × Arc nodes u v) × IsLive nodes v)) →
+        ((v : ℕ) → IsIn down' v ↔ (IsIn down v ⊎ IsIn reached v)) → GoesDown nodes given up down followed down' followed' true
+    wave_down down' leads children marked = record {
+      kept = λ v m. (marked v).1 (inl m);
+      sound = sound;
+      handed = λ h p v m arc. elim ((both p).0 m) as (λ _. IsIn down' v) [
+        | inl o ↦ (marked v).1 (inl (h p v o arc))
+        | inr f ↦ (marked v).1 (inr ((children v).1 ((p, f, arc.0), arc.2)))
+      ];
+      all = λ v live lead. all_followed nodes leading followed fresh followed' are both v live ((leads v).1 lead);
+      fewer = λ _. more_followed nodes leading followed fresh followed' are x first both;
+      same = λ e. absurd (false≢true (sym e));
+    }
+      where
+        sound : FlowAllFrom nodes given down up down' up
+        sound Up v m = Begin m
+        sound Down v m = elim ((marked v).0 m) as (λ _. Flows (LiveArc nodes) (IsIn given) (IsMarked down up) Down v) [
+          | inl o ↦ Begin o
+          | inr r ↦
+              let c = (children v).0 r in
+              let f = (are c.0.0).0 c.0.1 in
+              let lead = (leads c.0.0).0 f.0 in
+              elim lead.1 as (λ _. Flows (LiveArc nodes) (IsIn given) (IsMarked down up) Down v) [
+                | inl d ↦ Forward {w = Down} (c.0.2, f.1, c.1) lead.0 (Begin d)
+                | inr u ↦ Forward {w = Up} (c.0.2, f.1, c.1) lead.0 (Begin u)
+              ]
+        ]
+
+    pub wave_up : (up' : NodeSet) → ((v : ℕ) → IsIn leading v ↔ LeadsUp given down up v) → ((v : ℕ) → IsIn reached v ↔ (((u : ℕ) × IsIn fresh u × Arc nodes v u) × IsLive nodes v)) →
+        ((v : ℕ) → IsIn up' v ↔ (IsIn up v ⊎ IsIn reached v)) → GoesUp nodes given down up followed up' followed' true
+    wave_up up' leads parents marked = record {
+      kept = λ v m. (marked v).1 (inl m);
+      sound = sound;
+      handed = λ h p v m arc. elim ((both v).0 m) as (λ _. IsIn up' p) [
+        | inl o ↦ (marked p).1 (inl (h p v o arc))
+        | inr f ↦ (marked p).1 (inr ((parents p).1 ((v, f, arc.0), arc.1)))
+      ];
+      all = λ v live lead. all_followed nodes leading followed fresh followed' are both v live ((leads v).1 lead);
+      fewer = λ _. more_followed nodes leading followed fresh followed' are x first both;
+      same = λ e. absurd (false≢true (sym e));
+    }
+      where
+        sound : FlowAllFrom nodes given down up down up'
+        sound Down v m = Begin m
+        sound Up v m = elim ((marked v).0 m) as (λ _. Flows (LiveArc nodes) (IsIn given) (IsMarked down up) Up v) [
+          | inl o ↦ Begin o
+          | inr r ↦
+              let p = (parents v).0 r in
+              let f = (are p.0.0).0 p.0.1 in
+              elim ((leads p.0.0).0 f.0) as (λ _. Flows (LiveArc nodes) (IsIn given) (IsMarked down up) Up v) [
+                | inl g ↦ Bounce (p.0.2, p.1, f.1) g.0 (Begin g.1)
+                | inr n ↦ Back (p.0.2, p.1, f.1) n.0 (Begin n.1)
+              ]
+        ]
+
+-- the marks while waves go on
+pub record IsSpreading (nodes : List NodeView) (given down up down' up' gone_down gone_up : NodeSet) : Type 0 where
+  pub kept : (w : Way) (v : ℕ) → IsMarked down up w v → IsMarked down' up' w v
+  pub sound : FlowAllFrom nodes given down up down' up'
+  pub handed_down : HandDown nodes gone_down down'
+  pub handed_up : HandUp nodes gone_up up'
+
+module _ (nodes : List NodeView) (given down up : NodeSet) where
+  -- a wave down, and then one up
+  pub waves_then : (down₁ up₁ gone_down gone_up down₂ up₂ gone_down' gone_up' : NodeSet) (b c : Bool) → IsSpreading nodes given down up down₁ up₁ gone_down gone_up →
+      GoesDown nodes given up₁ down₁ gone_down down₂ gone_down' b → GoesUp nodes given down₂ up₁ gone_up up₂ gone_up' c → IsSpreading nodes given down up down₂ up₂ gone_down' gone_up'
+  waves_then down₁ up₁ gone_down gone_up down₂ up₂ gone_down' gone_up' b c h d u = record {
+    kept = kept;
+    sound = λ w v m. flows_again h.sound (flows_again d.sound (u.sound w v m));
+    handed_down = d.handed h.handed_down;
+    handed_up = u.handed h.handed_up;
   }
     where
-      both_steady : (b c : Bool) → (b ≡ false → (d' ≡ d) × (u' ≡ u) × P d u) → (c ≡ false → (d'' ≡ d') × (u'' ≡ u') × Q d' u') →
-          (b || c) ≡ false → (d'' ≡ d) × (u'' ≡ u) × (P d u × Q d u)
-      both_steady true c h k e = cc
-      both_steady false c h k e =
-          let p = h refl in let q = k e in
-          (q.0 ∙ p.0, q.1 ∙ p.1, (p.2, subst (λ x. Q x u) p.0 (subst (λ y. Q d' y) p.1 q.2)))
+      kept : (w : Way) (v : ℕ) → IsMarked down up w v → IsMarked down₂ up₂ w v
+      kept Up v m = u.kept v (h.kept Up v m)
+      kept Down v m = d.kept v (h.kept Down v m)
 
-      both_fewer : (b c : Bool) → IsSpread Arc Given P d u d' u' b → IsSpread Arc Given Q d' u' d'' u'' c →
-          (b || c) ≡ true → room d'' + room u'' < room d + room u
-      both_fewer true c h k e = let l = h.fewer refl in let m = not_more Q d' u' d'' u'' c k in omega arith
-      both_fewer false c h k e = let l = k.fewer e in let m = not_more P d u d' u' false h in omega arith
-
--- a new mark of v, down an arc from p
-module _ (Arc : ℕ → ℕ → Type 0) (given down up new : NodeSet) (v : ℕ) (f : Bool) where
-  marked_down : (p : ℕ) → Arc p v → LeadsDown given down up p → ((x : ℕ) → IsIn new x ↔ (IsIn down x ⊎ (x ≡ v))) → (w : Way) (x : ℕ) → IsMarked new up w x → Flows Arc (IsIn given) (IsMarked down up) w x
-  marked_down p arc l all Up x m = Begin m
-  marked_down p arc l all Down x m = elim ((all x).0 m) as (λ _. Flows Arc (IsIn given) (IsMarked down up) Down x) [
-    | inl h ↦ Begin h
-    | inr e ↦ subst (λ y. Flows Arc (IsIn given) (IsMarked down up) Down y) (sym e)
-        (elim l.1 as (λ _. Flows Arc (IsIn given) (IsMarked down up) Down v) [ inl h ↦ Forward {w = Down} arc l.0 (Begin h) | inr h ↦ Forward {w = Up} arc l.0 (Begin h) ])
-  ]
-
-  kept_down : ((x : ℕ) → IsIn new x ↔ (IsIn down x ⊎ (x ≡ v))) → (w : Way) (x : ℕ) → IsMarked down up w x → IsMarked new up w x
-  kept_down all Up x m = m
-  kept_down all Down x m = (all x).1 (inl m)
-
-  pub spread_down : (Done : NodeSet → NodeSet → Type 0) (p : ℕ) → Arc p v → LeadsDown given down up p → Adds (λ x. x ≡ v) down new f →
-      (IsIn down v → Done down up) → IsSpread Arc (IsIn given) Done down up new up f
-  spread_down Done p arc l h done = record {
-    kept = kept_down h.all;
-    sound = marked_down p arc l h.all;
-    steady = λ e. (h.same e, refl, done (subst (λ x. IsIn x v) (h.same e) ((h.all v).1 (inr refl))));
-    fewer = λ e. let k = h.fewer e in omega arith;
+  -- where neither goes on, no rule adds a mark
+  pub spread_closed : (down₁ up₁ gone_down gone_up down₂ up₂ gone_down' gone_up' : NodeSet) → IsSpreading nodes given down up down₁ up₁ gone_down gone_up →
+      GoesDown nodes given up₁ down₁ gone_down down₂ gone_down' false → GoesUp nodes given down₂ up₁ gone_up up₂ gone_up' false → AreClosed nodes given down₂ up₂
+  spread_closed down₁ up₁ gone_down gone_up down₂ up₂ gone_down' gone_up' h d u = record {
+    forward = λ w p v a n m. d.handed h.handed_down p v (d.all p a.1 (n, either_way w p m)) a;
+    back = λ p v a n m. u.handed h.handed_up p v (u.all v a.2 (inr (n, same_up v m))) a;
+    bounce = λ p v a g m. u.handed h.handed_up p v (u.all v a.2 (inl (g, m))) a;
   }
+    where
+      same_up : (v : ℕ) → IsIn up₂ v → IsIn up₁ v
+      same_up v m = subst (λ s. IsIn s v) (u.same refl).0 m
 
--- new marks of parents of v, up the arcs from v
-module _ (Arc : ℕ → ℕ → Type 0) (given down up new : NodeSet) (v : ℕ) (f : Bool) where
-  marked_up : LeadsUp given down up v → ((x : ℕ) → IsIn new x ↔ (IsIn up x ⊎ Arc x v)) → (w : Way) (x : ℕ) → IsMarked down new w x → Flows Arc (IsIn given) (IsMarked down up) w x
-  marked_up l all Down x m = Begin m
-  marked_up l all Up x m = elim ((all x).0 m) as (λ _. Flows Arc (IsIn given) (IsMarked down up) Up x) [
-    | inl h ↦ Begin h
-    | inr arc ↦ elim l as (λ _. Flows Arc (IsIn given) (IsMarked down up) Up x) [ inl h ↦ Bounce arc h.0 (Begin h.1) | inr h ↦ Back arc h.0 (Begin h.1) ]
-  ]
+      same_down : (v : ℕ) → IsIn down₂ v → IsIn down₁ v
+      same_down v m = subst (λ s. IsIn s v) (d.same refl).0 m
 
-  kept_up : ((x : ℕ) → IsIn new x ↔ (IsIn up x ⊎ Arc x v)) → (w : Way) (x : ℕ) → IsMarked down up w x → IsMarked down new w x
-  kept_up all Down x m = m
-  kept_up all Up x m = (all x).1 (inl m)
+      either_way : (w : Way) (x : ℕ) → IsMarked down₂ up₂ w x → IsIn down₁ x ⊎ IsIn up₁ x
+      either_way Up x m = inr (same_up x m)
+      either_way Down x m = inl (same_down x m)
 
-  pub spread_up : LeadsUp given down up v → Adds (λ x. Arc x v) up new f →
-      IsSpread Arc (IsIn given) (λ d u. (p : ℕ) → Arc p v → LeadsUp given d u v → IsIn u p) down up down new f
-  spread_up l h = record {
-    kept = kept_up h.all;
-    sound = marked_up l h.all;
-    steady = λ e. (refl, h.same e, λ p arc _. subst (λ x. IsIn x p) (h.same e) ((h.all p).1 (inr arc)));
-    fewer = λ e. let k = h.fewer e in omega arith;
-  }
+  -- the same where one test tells that neither goes on
+  pub closed_at_end : (down₁ up₁ gone_down gone_up down₂ up₂ gone_down' gone_up' : NodeSet) (b c : Bool) → (b || c) ≡ false → IsSpreading nodes given down up down₁ up₁ gone_down gone_up →
+      GoesDown nodes given up₁ down₁ gone_down down₂ gone_down' b → GoesUp nodes given down₂ up₁ gone_up up₂ gone_up' c → AreClosed nodes given down₂ up₂
+  closed_at_end down₁ up₁ gone_down gone_up down₂ up₂ gone_down' gone_up' true c e h d u = cc
+  closed_at_end down₁ up₁ gone_down gone_up down₂ up₂ gone_down' gone_up' false true e h d u = cc
+  closed_at_end down₁ up₁ gone_down gone_up down₂ up₂ gone_down' gone_up' false false e h d u = spread_closed down₁ up₁ gone_down gone_up down₂ up₂ gone_down' gone_up' h d u
 
--- marks from which each node hears and tells are closed under the rules
-pub closed_from : (nodes : List NodeView) (given d u : NodeSet) → ((v : ℕ) → HearsAll nodes given v d u × TellsAll nodes given v d u) → IsClosed (LiveArc nodes) (IsIn given) (IsMarked d u)
-closed_from nodes given d u h = record {
-  forward = λ w p v a n m. (h v).0 p a (n, either_way w p m);
-  back = λ p v a n m. (h v).1 p a (inr (n, m));
-  bounce = λ p v a g m. (h v).1 p a (inl (g, m));
-}
-  where
-    either_way : (w : Way) (x : ℕ) → IsMarked d u w x → IsIn d x ⊎ IsIn u x
-    either_way Up x m = inr m
-    either_way Down x m = inl m
-
--- closed into one node more
-pub closed_more : (nodes : List NodeView) (given d u : NodeSet) (P : ℕ → Type 0) (v : ℕ) (Q : ℕ → Type 0) → ((x : ℕ) → Q x → (x ≡ v → ⊥) → P x) →
-    ClosedBothInto nodes given P d u → ClosedBothInto nodes given (λ x. x ≡ v) d u → ClosedBothInto nodes given Q d u
-closed_more nodes given d u P v Q f h k x q = elim (cases_eq x v) as (λ _. HearsAll nodes given x d u × TellsAll nodes given x d u) [
-  | inl e ↦ k x e
-  | inr n ↦ h x (f x q n)
-]
-
--- a sweep that changes nothing leaves closed marks
-pub closed_after : (nodes : List NodeView) (given d u d' u' : NodeSet) (c : Bool) →
-    IsSpread (LiveArc nodes) (IsIn given) (ClosedBothInto nodes given (λ x. x < length nodes)) d u d' u' c → c ≡ false → IsClosed (LiveArc nodes) (IsIn given) (IsMarked d' u')
-closed_after nodes given d u d' u' c h e =
-    let s = h.steady e in
-    closed_from nodes given d' u' (λ v. (
-      (λ p arc. subst (λ x. LeadsDown given x u' p → IsIn x v) (sym s.0) (subst (λ y. LeadsDown given d y p → IsIn d v) (sym s.1) ((s.2 v arc.2.within).0 p arc))),
-      (λ p arc. subst (λ x. LeadsUp given x u' v → IsIn u' p) (sym s.0) (subst (λ y. LeadsUp given d y v → IsIn y p) (sym s.1) ((s.2 v arc.2.within).1 p arc))),
-    ))
-
--- the live ones of one parent more
-pub live_more : (Live : ℕ → Type 0) (list : List ℕ) (i : ℕ) → i < length list → (x : ℕ) →
-    (Contains (take (i + 1) list) x × Live x) ↔ ((Contains (take i list) x × Live x) ⊎ ((x ≡ get_or list i 0) × Live x))
-live_more Live list i within x = (
-  (λ c. elim ((first_more list i x within).0 c.0) as (λ _. (Contains (take i list) x × Live x) ⊎ ((x ≡ get_or list i 0) × Live x)) [ inl t ↦ inl (t, c.1) | inr e ↦ inr (e, c.1) ]),
-  elim [ inl c ↦ ((first_more list i x within).1 (inl c.0), c.1) | inr c ↦ ((first_more list i x within).1 (inr c.0), c.1) ],
-)
+  -- what was followed grows where one goes on
+  pub waves_smaller : (down₁ up₁ gone_down gone_up down₂ up₂ gone_down' gone_up' : NodeSet) (b c : Bool) → (b || c) ≡ true →
+      GoesDown nodes given up₁ down₁ gone_down down₂ gone_down' b → GoesUp nodes given down₂ up₁ gone_up up₂ gone_up' c → room gone_down' + room gone_up' < room gone_down + room gone_up
+  waves_smaller down₁ up₁ gone_down gone_up down₂ up₂ gone_down' gone_up' true c e d u = let l = d.fewer refl in let m = no_more_up c u in omega arith
+    where
+      no_more_up : (c : Bool) → GoesUp nodes given down₂ up₁ gone_up up₂ gone_up' c → room gone_up' ≤ room gone_up
+      no_more_up true u = let l = u.fewer refl in omega arith
+      no_more_up false u = let s : room gone_up' ≡ room gone_up = ap (λ s. room s) (u.same refl).1 in omega arith
+  waves_smaller down₁ up₁ gone_down gone_up down₂ up₂ gone_down' gone_up' false c e d u =
+      let l = u.fewer e in let s : room gone_down' ≡ room gone_down = ap (λ s. room s) (d.same refl).1 in omega arith

@@ -1,5 +1,5 @@
 -- The steps of a search: two marks a node, one for each way of arrival.
-use Rattle.std.specs.Prelude.{◌≡◌, ℕ, ◌+◌, ◌<◌, ◌⊎◌, ◌↔◌, Bool, true, false, List, length}
+use Rattle.std.specs.Prelude.{◌≡◌, ℕ, ◌<◌, ◌⊎◌, ◌↔◌, Bool, true, false, List}
 use Rattle.node_sets.specs.declared.sets.NodeSet.{NodeSet}
 use Rattle.node_sets.specs.Sets.{IsIn, room}
 use Rattle.maid_model.specs.Views.{NodeView}
@@ -26,62 +26,9 @@ LeadsDown given down up v = (IsIn given v → ⊥) × (IsIn down v ⊎ IsIn up v
 abbrev pub LeadsUp : NodeSet → NodeSet → NodeSet → ℕ → Type 0
 LeadsUp given down up v = (IsIn given v × IsIn down v) ⊎ ((IsIn given v → ⊥) × IsIn up v)
 
--- walks arrive at v from a parent
-abbrev pub HearsParent : List NodeView → NodeSet → NodeSet → NodeSet → ℕ → Type 0
-HearsParent nodes given down up v = (p : ℕ) × LiveArc nodes p v × LeadsDown given down up p
-
 -- the nodes at which walks lead on up the arcs into them
 abbrev pub AreLeadingUp : NodeSet → NodeSet → NodeSet → NodeSet → Type 0
 AreLeadingUp given down up marked = (v : ℕ) → IsIn marked v ↔ LeadsUp given down up v
-
--- the node is marked where walks arrive from a parent
-abbrev pub HearsAll : List NodeView → NodeSet → ℕ → NodeSet → NodeSet → Type 0
-HearsAll nodes given v down up =
-    (p : ℕ) → LiveArc nodes p v → LeadsDown given down up p → IsIn down v
-
--- where walks go on up from the node, each of its parents is marked
-abbrev pub TellsAll : List NodeView → NodeSet → ℕ → NodeSet → NodeSet → Type 0
-TellsAll nodes given v down up = (p : ℕ) → LiveArc nodes p v → LeadsUp given down up v → IsIn up p
-
--- both hold of each node of a set
-abbrev pub ClosedBothInto : List NodeView → NodeSet → (ℕ → Type 0) → NodeSet → NodeSet → Type 0
-ClosedBothInto nodes given Set down up =
-    (v : ℕ) → Set v → HearsAll nodes given v down up × TellsAll nodes given v down up
-
--- one step: marks grow by the rules alone, and where nothing changes they have the property Done
-pub record IsSpread
-    (Arc : ℕ → ℕ → Type 0) (Given : ℕ → Type 0) (Done : NodeSet → NodeSet → Type 0)
-    (down up down' up' : NodeSet) (changed : Bool) : Type 0 where
-  pub kept : (w : Way) (v : ℕ) → IsMarked down up w v → IsMarked down' up' w v
-  pub sound : (w : Way) (v : ℕ) → IsMarked down' up' w v → Flows Arc Given (IsMarked down up) w v
-  pub steady : changed ≡ false → (down' ≡ down) × (up' ≡ up) × Done down up
-  pub fewer : changed ≡ true → room down' + room up' < room down + room up
-
--- the live node has heard whether walks arrive at it from a parent
-abbrev pub IsHearing :
-    List NodeView → NodeSet → ℕ → NodeSet → NodeSet → NodeSet → NodeSet → Bool → Type 0
-IsHearing nodes given v down up down' up' changed =
-    IsSpread (LiveArc nodes) (IsIn given) (HearsAll nodes given v) down up down' up' changed
-
--- the live node has told its parents whether walks go on up from it
-abbrev pub IsTelling :
-    List NodeView → NodeSet → ℕ → NodeSet → NodeSet → NodeSet → NodeSet → Bool → Type 0
-IsTelling nodes given v down up down' up' changed =
-    IsSpread (LiveArc nodes) (IsIn given) (TellsAll nodes given v) down up down' up' changed
-
--- the arcs into v were followed once, in both directions
-abbrev pub IsBallVisit :
-    List NodeView → NodeSet → ℕ → NodeSet → NodeSet → NodeSet → NodeSet → Bool → Type 0
-IsBallVisit nodes given v down up down' up' changed =
-    IsSpread (LiveArc nodes) (IsIn given) (ClosedBothInto nodes given (λ x. x ≡ v)) down up down' up'
-    changed
-
--- all arcs were followed once, in both directions
-abbrev pub IsBallSweep :
-    List NodeView → NodeSet → NodeSet → NodeSet → NodeSet → NodeSet → Bool → Type 0
-IsBallSweep nodes given down up down' up' changed =
-    IsSpread (LiveArc nodes) (IsIn given) (ClosedBothInto nodes given (λ x. x < length nodes)) down up
-    down' up' changed
 
 -- the mark spreads from these marks by the rules
 abbrev pub FlowsFrom : List NodeView → NodeSet → NodeSet → NodeSet → Way → ℕ → Type 0
@@ -95,6 +42,41 @@ FlowAllFrom nodes given down up down' up' =
 -- no rule adds one to these marks
 abbrev pub AreClosed : List NodeView → NodeSet → NodeSet → NodeSet → Type 0
 AreClosed nodes given down up = IsClosed (LiveArc nodes) (IsIn given) (IsMarked down up)
+
+-- the live nodes among those that lead on, without those that were followed
+abbrev pub AreFresh : List NodeView → NodeSet → NodeSet → NodeSet → Type 0
+AreFresh nodes leading followed fresh =
+    (v : ℕ) → IsIn fresh v ↔ (IsIn leading v × IsLive nodes v × (IsIn followed v → ⊥))
+
+-- arcs were followed down from the followed nodes: each of their live children has the mark
+abbrev pub HandDown : List NodeView → NodeSet → NodeSet → Type 0
+HandDown nodes followed down = (p v : ℕ) → IsIn followed p → LiveArc nodes p v → IsIn down v
+
+-- arcs were followed up from the followed nodes: each of their live parents has the mark
+abbrev pub HandUp : List NodeView → NodeSet → NodeSet → Type 0
+HandUp nodes followed up = (p v : ℕ) → IsIn followed v → LiveArc nodes p v → IsIn up p
+
+-- one wave down, from all live nodes that lead down and had not been followed down; `went` tells whether there are any
+pub record GoesDown
+    (nodes : List NodeView) (given up down followed down' followed' : NodeSet) (went : Bool) :
+    Type 0 where
+  pub kept : (v : ℕ) → IsIn down v → IsIn down' v
+  pub sound : FlowAllFrom nodes given down up down' up
+  pub handed : HandDown nodes followed down → HandDown nodes followed' down'
+  pub all : (v : ℕ) → IsLive nodes v → LeadsDown given down up v → IsIn followed' v
+  pub fewer : went ≡ true → room followed' < room followed
+  pub same : went ≡ false → (down' ≡ down) × (followed' ≡ followed)
+
+-- one wave up, from all live nodes that lead up and had not been followed up; `went` tells whether there are any
+pub record GoesUp
+    (nodes : List NodeView) (given down up followed up' followed' : NodeSet) (went : Bool) :
+    Type 0 where
+  pub kept : (v : ℕ) → IsIn up v → IsIn up' v
+  pub sound : FlowAllFrom nodes given down up down up'
+  pub handed : HandUp nodes followed up → HandUp nodes followed' up'
+  pub all : (v : ℕ) → IsLive nodes v → LeadsUp given down up v → IsIn followed' v
+  pub fewer : went ≡ true → room followed' < room followed
+  pub same : went ≡ false → (up' ≡ up) × (followed' ≡ followed)
 
 -- the node that a start names
 abbrev pub node_of : Start → ℕ

@@ -4,10 +4,9 @@
 #![tactic(auto)]
 
 mod goals;
-mod graph;
 mod marks;
 mod search;
-mod sweeps;
+mod waves;
 
 pub use goals::reach_from_goals;
 pub use marks::Marks;

@@ -5,6 +5,7 @@ ghost use Rattle.node_sets.specs.declared.sets.TheConstants.{MOST_NODES};
 ghost use Rattle.node_sets.specs.Sets.{IsIn};
 ghost use Rattle.bayes_ball.specs.Spread.{AreLeadingUp};
 
+use crate::waves::leading_up;
 use node_sets::NodeSet;
 
 /// Where a search arrived.
@@ -22,7 +23,7 @@ impl Marks {
     {
         Marks {
             reached: down.union(up),
-            parents_reached: given.intersection(down).union(&up.difference(given)),
+            parents_reached: leading_up(given, down, up),
         }
     }
 

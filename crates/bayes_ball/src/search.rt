@@ -8,7 +8,7 @@ ghost use Rattle.bayes_ball.specs.Flow.{Way};
 ghost use Rattle.bayes_ball.specs.Spread.{IsMarked, StartsAt, node_of};
 
 use crate::marks::Marks;
-use crate::sweeps::close;
+use crate::waves::close;
 use maid_model::Diagram;
 use node_sets::NodeSet;
 
@@ -34,8 +34,7 @@ fn begin(start: Start) -> (NodeSet, NodeSet)
 /// live to start from an extra parent of it. After a search from a node the marks also tell of which nodes an extra
 /// parent has an active walk to it; after one from an extra parent they don't.
 ///
-/// It takes no memory. It goes over all arcs a few times: over a text with parents first, twice and twice more for
-/// each time that a walk has to turn back up at a given node.
+/// It takes no memory, and looks at most once at the children and once at the parents of each node to which a walk leads.
 pub fn reach(diagram: &Diagram, start: Start, given: &NodeSet) -> Marks
     requires given { (v : ℕ) → IsIn given.now v → v < length diagram.now.nodes }
     requires start { CanStart diagram.now.nodes given.now start }

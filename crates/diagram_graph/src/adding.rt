@@ -105,7 +105,7 @@ pub fn is_too_large(diagram: &Diagram, from: usize, to: usize) -> bool
     !has_room(diagram, from, to)
 }
 
-/// The diagram with the arc into the decision, as its last parent. It goes over all arcs a few times, and takes the time
+/// The diagram with the arc into the decision, as its last parent. It looks at each node a few times, and takes the time
 /// and the memory of a copy of all cells.
 ///
 /// It is refused exactly where the arc is there; else where it would close a cycle; else where the decision would have

@@ -98,3 +98,17 @@ pub fn without_arc(
         Err(RemoveFault::NoMemory) => Err(AllocError),
     }
 }
+
+/// The diagram without an arc that is there, out of the diagram itself: nothing is copied, and no memory taken.
+pub fn lose_arc(diagram: Diagram, from: usize, to: usize) -> Diagram
+    requires decision { IsDecision diagram.nodes to }
+    requires arc { Arc diagram.nodes from to }
+    ensures { IsWithNodes diagram (without_arc diagram.nodes from to) result }
+{
+    arc_removed();
+    let agents = diagram.agents();
+    let decimals = diagram.decimals();
+    let mut nodes = diagram.into_nodes();
+    drop_arc(&mut nodes, from, to);
+    Diagram::from_nodes(nodes, agents, decimals)
+}

@@ -18,7 +18,7 @@ mod room;
 mod rounds;
 
 pub use adding::{AddFault, add_arc, is_too_large};
-pub use arcs::{RemoveFault, remove_arc, without_arc};
+pub use arcs::{RemoveFault, lose_arc, remove_arc, without_arc};
 pub use copies::{copy_diagram, copy_nodes};
 pub use cycles::{first_cycle, topological};
 pub use kinds::{MakeFault, fix_others, make_decision};

@@ -118,7 +118,7 @@ fn part_nodes(alloc: Global, diagram: &Diagram, kept: &[usize]) -> Result<Vec<No
 /// decision's sums in the whole are those in the part times one factor, the totals of what is left out; and so are an
 /// agent's, where the part has all its utilities: `part_laws::law_of_parts`.
 ///
-/// It goes over all arcs a few times, and takes the time and the memory of a copy of the kept cells.
+/// It looks at each node a few times, and takes the time and the memory of a copy of the kept cells.
 ///
 /// # Errors
 ///

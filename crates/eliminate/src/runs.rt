@@ -164,10 +164,15 @@ pub fn run_plan<C: Cell>(
     requires fits { 2 * plan_total diagram.now.nodes profile.now plan.now.plan ≤ C.ring.most }
     ensures { SumsPlanIn C.Cell diagram.now profile.now plan.now work.old work.new result }
 {
-    if diagram.count() > FEW {
+    let has_many = diagram.count() > FEW;
+    if is_short(plan) {
+        if has_many {
+            run_sized::<C, MOST_NODES, SHORT>(work, plan, diagram, profile)
+        } else {
+            run_sized::<C, FEW, SHORT>(work, plan, diagram, profile)
+        }
+    } else if has_many {
         run_sized::<C, MOST_NODES, MOST_NODES>(work, plan, diagram, profile)
-    } else if is_short(plan) {
-        run_sized::<C, FEW, SHORT>(work, plan, diagram, profile)
     } else {
         run_sized::<C, FEW, FEW>(work, plan, diagram, profile)
     }

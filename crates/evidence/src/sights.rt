@@ -135,7 +135,7 @@ fn nodes_seeing(alloc: Global, diagram: &Diagram, node: usize) -> Result<Vec<Nod
 }
 
 /// The diagram in which every decision sees the node, as its last parent where it didn't see it.
-/// It goes over all arcs a few times, and takes the time and the memory of a copy of all cells.
+/// It looks at each node a few times, and takes the time and the memory of a copy of all cells.
 pub(crate) fn see(alloc: Global, diagram: &Diagram, node: usize) -> Result<Diagram, GivenFault>
     requires within { node < length diagram.now.nodes }
     requires kind { (node_at diagram.now.nodes node).kind ≡ Chance }

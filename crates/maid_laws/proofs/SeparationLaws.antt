@@ -4,7 +4,7 @@ use Rattle.std.proofs.Math.Decide.{ℕ_discrete, dec_lt}
 use Rattle.std.proofs.Math.Path.{fun_ext}
 use Rattle.maid_model.specs.Gains.{sum_worlds, weight_without}
 use Rattle.maid_model.specs.Graph.{Arc, IsPath, Here, Along, IsGraph}
-use Rattle.maid_model.specs.Nodes.{states_of, numbers_of}
+use Rattle.maid_model.specs.Nodes.{IsUtility, states_of, numbers_of}
 use Rattle.maid_model.specs.Relevance.{IsLive}
 use Rattle.finite_sums.specs.Sums.{World, InRange, with_state, sum_below, sum_over, product_over, nat_product_over}
 use Rattle.maid_model.specs.Tables.{weight_total}
@@ -15,7 +15,7 @@ use Rattle.maid_model.proofs.Setting.{HasTables}
 use Rattle.finite_sums.proofs.Lists.{among_filter, product_over-shuffled, sum_over-shuffled}
 use Rattle.finite_sums.proofs.Sums.{sum_below_cong, sum_over_cong, with_same, with_other}
 use Rattle.finite_sums.specs.Members.{Avoids}
-use Rattle.maid_laws.specs.Separation.{IsUtility, IsFixedBy, Matters, HasWalk, LooksAt, SharedNodeJoins, IsSplit, SplitExists, agrees_at_fixed, total_without, product_without, SumsSeparate}
+use Rattle.maid_laws.specs.Separation.{IsFixedBy, Matters, HasWalk, LooksAt, SharedNodeJoins, IsSplit, SplitExists, agrees_at_fixed, total_without, product_without, SumsSeparate}
 use Rattle.maid_laws.proofs.Booleans.{eqb_yes, eqb_no, eqb_same, not_both, all_at, at_all}
 use Rattle.maid_laws.proofs.Basis.{Setup, Tells, tells_true}
 use Rattle.maid_laws.proofs.Collapse.{one_if, one_if-cond, agree, Apart}

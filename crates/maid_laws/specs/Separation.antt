@@ -1,9 +1,8 @@
 -- The separation of tables by active walks, given any fixed nodes (Shachter 1998).
 use Rattle.std.specs.Prelude.{◌≡◌, ◌⊎◌, ◌↔◌, ℕ, ◌<◌, Bool, true, false, ◌||◌, not, List, length, filter, ℤ, pos, ◌*ℤ◌, ◌==◌, if◌then◌else◌}
 use Rattle.std.specs.List.{list_all}
-use Rattle.maid_model.specs.declared.diagrams.Kind.TheVariants.{Utility}
 use Rattle.maid_model.specs.Views.{NodeView, RuleView}
-use Rattle.maid_model.specs.Nodes.{node_at, states_of, numbers_of}
+use Rattle.maid_model.specs.Nodes.{IsUtility, states_of, numbers_of}
 use Rattle.maid_model.specs.Graph.{Arc, IsPath, IsGraph}
 use Rattle.finite_sums.specs.Looks.{Ignores}
 use Rattle.finite_sums.specs.Sums.{World, InRange, sum_over, product_over, nat_product_over}
@@ -12,11 +11,6 @@ use Rattle.maid_model.specs.Profiles.{IsProfile}
 use Rattle.maid_model.specs.Gains.{sum_worlds, table_without, weight_without}
 use Rattle.maid_model.specs.Walks.{IsReachedFromParent}
 use Rattle.maid_model.specs.Relevance.{IsLive}
-
--- a utility of the diagram
-pub record IsUtility (nodes : List NodeView) (v : ℕ) : Type 0 where
-  pub within : v < length nodes
-  pub kind : (node_at nodes v).kind ≡ Utility
 
 -- the fixed nodes, by a test
 abbrev pub IsFixedBy : (ℕ → Bool) → ℕ → Type 0

@@ -1,10 +1,11 @@
 -- Laws of active walks.
 use Rattle.std.specs.Prelude.{◌≡◌, ℕ, Bool, false, List}
+use Rattle.maid_model.specs.Nodes.{IsUtility}
 use Rattle.maid_model.specs.Views.{NodeView}
 use Rattle.maid_model.specs.Graph.{Arc, Descends, IsGraph}
 use Rattle.maid_model.specs.Walks.{IsReached}
 use Rattle.maid_model.specs.Relevance.{IsLive}
-use Rattle.maid_laws.specs.Separation.{IsFixedBy, IsUtility, Matters, HasWalk}
+use Rattle.maid_laws.specs.Separation.{IsFixedBy, Matters, HasWalk}
 
 -- An active walk may be read from either end.
 abbrev pub WalksTurn : Type 0

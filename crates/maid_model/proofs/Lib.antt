@@ -14,6 +14,7 @@ pub mod Below
 pub mod Ordering
 pub mod Owners
 pub mod Listing
+pub mod Indexes
 pub mod Picked
 pub mod Weighing
 pub mod Summing

@@ -78,6 +78,11 @@ pub record IsOwnedBy (nodes : List NodeView) (v agent : ℕ) : Type 0 where
 abbrev pub agent_of : List NodeView → ℕ → ℕ
 agent_of nodes d = (node_at nodes d).owner
 
+-- v is a utility
+pub record IsUtility (nodes : List NodeView) (v : ℕ) : Type 0 where
+  pub within : v < length nodes
+  pub kind : (node_at nodes v).kind ≡ Utility
+
 -- v is a utility that the agent owns, alone or with others
 pub record IsUtilityOf (nodes : List NodeView) (agent v : ℕ) : Type 0 where
   pub within : v < length nodes

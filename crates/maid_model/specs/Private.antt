@@ -1,15 +1,36 @@
 -- Notions that only contracts of private functions cite.
-use Rattle.std.specs.Prelude.{◌≡◌, ◌≢◌, ℕ, ◌+◌, ◌<◌, ◌≤◌, ◌==◌, List, length, slice_index, slice_index_or, slice_set, ℤ, pos, ◌*ℤ◌, if◌then◌else◌}
+use Rattle.std.specs.Prelude.{◌≡◌, ◌≢◌, ℕ, ◌+◌, ◌<◌, ◌≤◌, ◌⊎◌, ◌↔◌, ◌==◌, List, length, slice_index, slice_index_or, slice_set, ℤ, pos, ◌*ℤ◌, if◌then◌else◌}
 use Rattle.node_sets.specs.declared.sets.NodeSet.{NodeSet}
+use Rattle.node_sets.specs.Arcs.{HasParent, HasChild}
 use Rattle.node_sets.specs.Sets.{holds, IsIn}
 use Rattle.maid_model.specs.declared.diagrams.Kind.TheVariants.{Utility}
-use Rattle.maid_model.specs.Views.{NodeView, RuleView}
-use Rattle.maid_model.specs.Nodes.{IsDecision, node_at, numbers_of}
+use Rattle.maid_model.specs.declared.indexing.NodeIndex.{NodeIndex}
+use Rattle.maid_model.specs.Views.{NodeView, DiagramView, RuleView}
+use Rattle.maid_model.specs.Diagrams.{IsDiagram}
+use Rattle.maid_model.specs.Graph.{Arc}
+use Rattle.maid_model.specs.Relevance.{IsLive}
+use Rattle.maid_model.specs.Nodes.{IsDecision, IsUtility, node_at, numbers_of}
 use Rattle.maid_model.specs.Gains.{table_without, weight_without}
 use Rattle.maid_model.specs.Profiles.{no_rule}
 use Rattle.finite_sums.specs.Sums.{World, sum_each}
 use Rattle.maid_model.specs.Tables.{row_of}
 use Rattle.maid_model.specs.Worlds.{world_of}
+
+-- a utility, or two states or more
+abbrev pub HasLiveStates : NodeView → Type 0
+HasLiveStates node = (node.kind ≡ Utility) ⊎ (1 < node.states)
+
+-- the sets of these nodes: each node's parents and children, the live nodes and the utilities
+pub record IsIndexOf (nodes : List NodeView) (index : NodeIndex) : Type 0 where
+  pub parents : (u v : ℕ) → HasParent index.arcs v u ↔ Arc nodes u v
+  pub children : (u v : ℕ) → HasChild index.arcs u v ↔ Arc nodes u v
+  pub live : (v : ℕ) → IsIn index.live v ↔ IsLive nodes v
+  pub utilities : (v : ℕ) → IsIn index.utilities v ↔ IsUtility nodes v
+
+-- an influence diagram, and the sets of its nodes
+pub record IsIndexed (d : DiagramView) (index : NodeIndex) : Type 0 where
+  pub diagram : IsDiagram d
+  pub nodes : IsIndexOf d.nodes index
 
 -- place i is the first with a rule of the decision
 pub record IsFirstAt (p : List RuleView) (v i : ℕ) : Type 0 where

@@ -1,12 +1,18 @@
 //! Nodes and diagrams.
 
 ghost use Rattle.std.specs.Prelude.{◌≡◌, ℕ, ◌<◌, ◌≤◌, ◌↔◌, ◌^◌, length, Contains, IfOk, IsTrue, pos, ◌≤ℤ◌, nat_abs, slice_index_or};
+ghost use Rattle.node_sets.specs.Arcs.{HasParent, HasChild};
+ghost use Rattle.node_sets.specs.Sets.{IsIn};
 ghost use Rattle.maid_model.specs.Diagrams.{IsDiagram};
-ghost use Rattle.maid_model.specs.Nodes.{IsDecision, IsOwnedBy, agent_of, decisions_of, is_decision, node_at, parents_of, rows_of, states_of};
+ghost use Rattle.maid_model.specs.Graph.{Arc};
+ghost use Rattle.maid_model.specs.Nodes.{IsDecision, IsOwnedBy, IsUtility, agent_of, decisions_of, is_decision, node_at, parents_of, rows_of, states_of};
+ghost use Rattle.maid_model.specs.Relevance.{IsLive};
 ghost use Rattle.maid_model.specs.Views.{diagram_of};
 ghost use Rattle.finite_sums.specs.Sums.{sum_below};
 ghost use Rattle.maid_model.specs.Tables.{chance_total};
 
+use crate::indexing::NodeIndex;
+use node_sets::{ArcSets, NodeSet};
 use smallvec::SmallVec;
 use std::alloc::{AllocError, Global};
 use std::marker::Model;
@@ -55,30 +61,42 @@ pub struct Diagram {
     nodes: Vec<Node>,
     agents: usize,
     decimals: u32,
+    index: NodeIndex,
 }
 
 impl Model for Diagram {
     ghost use Rattle.maid_model.specs.Views.{DiagramView, diagram_of};
-    ghost use Rattle.maid_model.specs.Diagrams.{IsDiagram};
+    ghost use Rattle.maid_model.specs.Private.{IsIndexed};
 
     ghost Value = { DiagramView };
 
     ghost view = { λ d. diagram_of d.nodes.items d.agents d.decimals };
 
-    ghost invariant = { λ d. IsDiagram (diagram_of d.nodes.items d.agents d.decimals) };
+    ghost invariant = { λ d.
+        IsIndexed (diagram_of d.nodes.items d.agents d.decimals) d.index };
 }
 
 impl Diagram {
-    /// The diagram of these nodes. It takes no memory.
+    /// The diagram of these nodes. It takes no memory, and goes over all arcs once.
     pub fn from_nodes(nodes: Vec<Node>, agents: usize, decimals: u32) -> Diagram
         requires { IsDiagram (diagram_of nodes.items agents decimals) }
         ensures { result ≡ diagram_of nodes.items agents decimals }
     {
+        let index = NodeIndex::of(&nodes);
         Diagram {
             nodes,
             agents,
             decimals,
+            index,
         }
+    }
+
+    /// The nodes, by number. It takes no memory.
+    pub fn into_nodes(self) -> Vec<Node>
+        ensures nodes { result.items ≡ self.nodes }
+        ensures diagram { IsDiagram self }
+    {
+        self.nodes
     }
 
     /// How many nodes there are. Who must know that what it holds is a diagram calls it for that clause alone:
@@ -147,6 +165,31 @@ impl Diagram {
     {
         let node = self.node(v);
         node.parents.as_slice()
+    }
+
+    /// The arcs, as each node's set of parents and set of children.
+    pub fn arcs(&self) -> &ArcSets
+        ensures parents { (u v : ℕ) → HasParent result.now v u ↔ Arc self.now.nodes u v }
+        ensures children { (u v : ℕ) → HasChild result.now u v ↔ Arc self.now.nodes u v }
+        ensures diagram { IsDiagram self.now }
+    {
+        &self.index.arcs
+    }
+
+    /// The nodes that can be on walks: the utilities, and the others of two states or more.
+    pub fn live_nodes(&self) -> &NodeSet
+        ensures nodes { (v : ℕ) → IsIn result.now v ↔ IsLive self.now.nodes v }
+        ensures diagram { IsDiagram self.now }
+    {
+        &self.index.live
+    }
+
+    /// The utilities of all agents.
+    pub fn utilities(&self) -> &NodeSet
+        ensures nodes { (v : ℕ) → IsIn result.now v ↔ IsUtility self.now.nodes v }
+        ensures diagram { IsDiagram self.now }
+    {
+        &self.index.utilities
     }
 
     /// The node's cells.

@@ -5,6 +5,7 @@
 mod answers;
 mod diagrams;
 mod graph;
+mod indexing;
 mod laws;
 mod limits;
 mod names;

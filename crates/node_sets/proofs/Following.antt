@@ -1,13 +1,10 @@
--- Sets that grow along steps, one sweep after another.
-use Rattle.std.proofs.Common.{◌≡◌, ℕ, ◌<◌, ◌≤◌, Bool, true, false, ◌||◌, List, [], inl, inr, refl, subst, sym, ap, ◌∙◌, arith}
-use Rattle.std.specs.Prelude.{Contains}
-use Rattle.std.proofs.lemmas.Bool.{cases_eq, cases_lt}
-use Rattle.node_sets.specs.declared.paths.Way.{Way}
-use Rattle.node_sets.specs.declared.paths.Way.TheVariants.{Down, Up}
+-- Sets that grow along steps, wave by wave.
+use Rattle.std.proofs.Common.{◌≡◌, ℕ, ◌+◌, ◌<◌, Bool, true, false, ◌⊎◌, ◌↔◌, inl, inr, refl, subst, sym, ◌∙◌, arith}
+use Rattle.std.proofs.lemmas.Bool.{cases_lt, false≢true}
 use Rattle.node_sets.specs.declared.sets.NodeSet.{NodeSet}
-use Rattle.node_sets.specs.Sets.{IsIn, room, Adds}
-use Rattle.node_sets.specs.Paths.{IsPath, Here, Along, LeadsFrom, ParentArc}
-use Rattle.node_sets.specs.Sweeps.{Step, ClosedAt, ClosedInto, IsFollowed}
+use Rattle.node_sets.specs.Sets.{holds, IsIn, IsFirstFrom, HasNoneFrom, room}
+use Rattle.node_sets.specs.Paths.{IsPath, Here, Along, LeadsFrom}
+use Rattle.node_sets.proofs.Growing.{room_less}
 use Rattle.node_sets.proofs.Turning.{path_then}
 
 -- a set that is closed holds all that paths lead to from it
@@ -19,61 +16,85 @@ pub leads_again : (Arc : ℕ → ℕ → Type 0) (Start Next : ℕ → Type 0) �
 leads_again Arc Start Next f v (m, s, p) = let h = f m s in (h.0, h.1, path_then v m p h.0 h.2)
 
 module _ (Step : ℕ → ℕ → Type 0) where
-  pub followed_none : (P : NodeSet → Type 0) (xs : NodeSet) → P xs → IsFollowed Step P xs xs false
-  followed_none P xs p = record { kept = λ v m. m; sound = λ v m. (v, m, Here); steady = λ _. (refl, p); fewer = λ e. cc }
+  -- the nodes to which a step leads from a node of the set below that number
+  abbrev pub IsSteppedTo : NodeSet → ℕ → NodeSet → Type 0
+  IsSteppedTo set from reached = (v : ℕ) → IsIn reached v ↔ ((u : ℕ) × (u < from) × IsIn set u × Step u v)
 
-  pub followed_weaker : (P Q : NodeSet → Type 0) (xs ys : NodeSet) (c : Bool) → (P xs → Q xs) → IsFollowed Step P xs ys c → IsFollowed Step Q xs ys c
-  followed_weaker P Q xs ys c f h = record { kept = h.kept; sound = h.sound; fewer = h.fewer; steady = λ e. ((h.steady e).0, f (h.steady e).1) }
+  -- one node more, the next of the set
+  pub stepped_more : (set : NodeSet) (from u : ℕ) (reached step next : NodeSet) → IsFirstFrom set from u → ((v : ℕ) → IsIn step v ↔ Step u v) →
+      ((v : ℕ) → IsIn next v ↔ (IsIn reached v ⊎ IsIn step v)) → IsSteppedTo set from reached → IsSteppedTo set (u + 1) next
+  stepped_more set from u reached step next first steps both h v = (
+    (λ m. elim ((both v).0 m) as (λ _. (w : ℕ) × (w < u + 1) × IsIn set w × Step w v) [
+      | inl o ↦ let w = (h v).0 o in let l = w.1 in let k = first.not_before in (w.0, omega arith, w.2, w.3)
+      | inr s ↦ (u, omega arith, first.inside, (steps v).0 s)
+    ]),
+    (λ w. elim (cases_lt w.0 from) as (λ _. IsIn next v) [
+      | inl l ↦ (both v).1 (inl ((h v).1 (w.0, l, w.2, w.3)))
+      | inr l ↦ elim (cases_lt w.0 u) as (λ _. IsIn next v) [
+        | inl k ↦ absurd (first.first w.0 l k w.2)
+        | inr k ↦
+            let j = w.1 in
+            let e : w.0 ≡ u = omega arith in
+            (both v).1 (inr ((steps v).1 (subst (λ x. Step x v) e w.3)))
+      ]
+    ]),
+  )
 
-  no_more : (P : NodeSet → Type 0) (xs ys : NodeSet) (b : Bool) → IsFollowed Step P xs ys b → room ys ≤ room xs
-  no_more P xs ys true h = let l = h.fewer refl in omega arith
-  no_more P xs ys false h = let e : room ys ≡ room xs = ap (λ s. room s) (h.steady refl).0 in omega arith
+  -- all of the set
+  pub stepped_all : (set : NodeSet) (from : ℕ) (reached : NodeSet) → HasNoneFrom set from → IsSteppedTo set from reached →
+      (v : ℕ) → IsIn reached v ↔ ((u : ℕ) × IsIn set u × Step u v)
+  stepped_all set from reached none h v = (
+    (λ m. let w = (h v).0 m in (w.0, w.2, w.3)),
+    (λ w. elim (cases_lt w.0 from) as (λ _. IsIn reached v) [
+      | inl l ↦ (h v).1 (w.0, l, w.1, w.2)
+      | inr l ↦ absurd (none w.0 l w.1)
+    ]),
+  )
 
-  pub followed_then : (P Q : NodeSet → Type 0) (xs ys zs : NodeSet) (b c : Bool) → IsFollowed Step P xs ys b → IsFollowed Step Q ys zs c →
-      IsFollowed Step (λ x. P x × Q x) xs zs (b || c)
-  followed_then P Q xs ys zs b c h k = record {
-    kept = λ v m. k.kept v (h.kept v m);
-    sound = λ v m. leads_again Step (IsIn xs) (IsIn ys) h.sound v (k.sound v m);
-    steady = both_steady b c h.steady k.steady;
-    fewer = both_fewer b c h k;
+  -- what is reached, and of it what was followed
+  pub record IsFollowed (start reached followed : NodeSet) : Type 0 where
+    pub kept : (v : ℕ) → IsIn start v → IsIn reached v
+    pub sound : (v : ℕ) → IsIn reached v → LeadsFrom Step (IsIn start) v
+    pub handed_on : (u v : ℕ) → IsIn followed u → Step u v → IsIn reached v
+    pub within : (v : ℕ) → IsIn followed v → IsIn reached v
+
+  -- one wave more, from all that is reached and was not followed
+  pub followed_more : (start reached followed fresh steps next : NodeSet) → ((v : ℕ) → IsIn fresh v ↔ (IsIn reached v × (IsIn followed v → ⊥))) →
+      ((v : ℕ) → IsIn steps v ↔ ((u : ℕ) × IsIn fresh u × Step u v)) → ((v : ℕ) → IsIn next v ↔ (IsIn reached v ⊎ IsIn steps v)) →
+      IsFollowed start reached followed → IsFollowed start next reached
+  followed_more start reached followed fresh steps next are stepped both h = record {
+    kept = λ v m. (both v).1 (inl (h.kept v m));
+    sound = λ v m. elim ((both v).0 m) as (λ _. LeadsFrom Step (IsIn start) v) [
+      | inl o ↦ h.sound v o
+      | inr s ↦
+          let w = (stepped v).0 s in
+          leads_again Step (IsIn start) (IsIn reached) h.sound v (w.0, ((are w.0).0 w.1).0, Along w.2 Here)
+    ];
+    handed_on = λ u v m s. handed u v m s (holds followed u) refl;
+    within = λ v m. (both v).1 (inl m);
   }
     where
-      both_steady : (b c : Bool) → (b ≡ false → (ys ≡ xs) × P xs) → (c ≡ false → (zs ≡ ys) × Q ys) → (b || c) ≡ false → (zs ≡ xs) × (P xs × Q xs)
-      both_steady true c h k e = cc
-      both_steady false c h k e = let p = h refl in let q = k e in (q.0 ∙ p.0, (p.1, subst Q p.0 q.1))
+      handed : (u v : ℕ) → IsIn reached u → Step u v → (b : Bool) → holds followed u ≡ b → IsIn next v
+      handed u v m s true e = (both v).1 (inl (h.handed_on u v e s))
+      handed u v m s false e = (both v).1 (inr ((stepped v).1 (u, (are u).1 (m, λ k. false≢true (sym e ∙ k)), s)))
 
-      both_fewer : (b c : Bool) → IsFollowed Step P xs ys b → IsFollowed Step Q ys zs c → (b || c) ≡ true → room zs < room xs
-      both_fewer true c h k e = let l = h.fewer refl in let m = no_more Q ys zs c k in omega arith
-      both_fewer false c h k e = let l = k.fewer e in let m = no_more P xs ys false h in omega arith
+  -- something is followed that was not
+  pub followed_less : (start reached followed fresh : NodeSet) (v : ℕ) → ((v : ℕ) → IsIn fresh v ↔ (IsIn reached v × (IsIn followed v → ⊥))) → IsFirstFrom fresh 0 v →
+      IsFollowed start reached followed → room reached < room followed
+  followed_less start reached followed fresh v are first h = let new = (are v).0 first.inside in less (holds followed v) refl new.0 new.1
+    where
+      less : (b : Bool) → holds followed v ≡ b → IsIn reached v → (IsIn followed v → ⊥) → room reached < room followed
+      less true e m n = absurd (n e)
+      less false e m n = room_less followed reached v first.small h.within e m
 
-  -- new members, each one step from a member
-  pub followed_one : (A : ℕ → Type 0) (Done : NodeSet → Type 0) (xs ys : NodeSet) (c : Bool) → ((x : ℕ) → A x → (p : ℕ) × IsIn xs p × Step p x) → Adds A xs ys c →
-      (((x : ℕ) → A x → IsIn xs x) → Done xs) → IsFollowed Step Done xs ys c
-  followed_one A Done xs ys c from h done = record {
-    kept = λ v m. (h.all v).1 (inl m);
-    sound = λ v m. elim ((h.all v).0 m) as (λ _. LeadsFrom Step (IsIn xs) v) [ inl o ↦ (v, o, Here) | inr a ↦ let p = from v a in (p.0, p.1, Along p.2 Here) ];
-    steady = λ e. (h.same e, done (λ x a. subst (λ s. IsIn s x) (h.same e) ((h.all x).1 (inr a))));
-    fewer = h.fewer;
-  }
-
-module _ (parents : ℕ → List ℕ) where
-  -- closed into one node more
-  pub closed_more : (way : Way) (set : NodeSet) (P : ℕ → Type 0) (v : ℕ) (Q : ℕ → Type 0) → ((x : ℕ) → Q x → (x ≡ v → ⊥) → P x) →
-      ClosedInto parents way P set → ClosedAt parents way v set → ClosedInto parents way Q set
-  closed_more way set P v Q f h k x q = elim (cases_eq x v) as (λ _. ClosedAt parents way x set) [
-    | inl e ↦ subst (λ y. ClosedAt parents way y set) (sym e) k
-    | inr n ↦ h x (f x q n)
-  ]
-
-  module _ (size : ℕ) (none_past : (v : ℕ) → size ≤ v → parents v ≡ []) where
-    -- only nodes have parents
-    head_within : (p v : ℕ) → ParentArc parents p v → v < size
-    head_within p v arc = elim (cases_lt v size) as (λ _. v < size) [
-      | inl l ↦ l
-      | inr k ↦ let h = subst (λ (xs : List ℕ). Contains xs p) (none_past v k) arc in let l = h.1 in absurd (omega arith)
-    ]
-
-    -- a set into which each node's arcs are closed is closed under steps
-    pub closed_steps : (way : Way) (set : NodeSet) → ClosedInto parents way (λ x. x < size) set → (a b : ℕ) → Step parents way a b → IsIn set a → IsIn set b
-    closed_steps Down set h a b s = h b (head_within a b s) a s
-    closed_steps Up set h a b s = h a (head_within b a s) b s
+  -- where all that is reached was followed, it is all to which steps lead
+  pub followed_all : (start reached followed fresh : NodeSet) → ((v : ℕ) → IsIn fresh v ↔ (IsIn reached v × (IsIn followed v → ⊥))) → HasNoneFrom fresh 0 →
+      IsFollowed start reached followed → (v : ℕ) → IsIn reached v ↔ LeadsFrom Step (IsIn start) v
+  followed_all start reached followed fresh are none h v = (
+    h.sound v,
+    (λ w. path_marked {Arc = Step} {Set = IsIn reached} (λ a b s m. handed a b m s (holds followed a) refl) v w.0 w.2 (h.kept w.0 w.1)),
+  )
+    where
+      handed : (u v : ℕ) → IsIn reached u → Step u v → (b : Bool) → holds followed u ≡ b → IsIn reached v
+      handed u v m s true e = h.handed_on u v e s
+      handed u v m s false e = absurd (none u (omega arith) ((are u).1 (m, λ k. false≢true (sym e ∙ k))))

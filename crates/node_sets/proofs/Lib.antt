@@ -1,5 +1,6 @@
 pub mod Bits
 pub mod Growing
+pub mod Joining
 pub mod Words
 pub mod Turning
 pub mod Following

@@ -1,3 +1,4 @@
 pub mod Sets
+pub mod Arcs
 pub mod Paths
-pub mod Sweeps
+pub mod Steps

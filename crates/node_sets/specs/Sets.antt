@@ -1,5 +1,5 @@
 -- Sets of node numbers: what they hold, and how they grow.
-use Rattle.std.specs.Prelude.{◌≡◌, ℕ, zero, suc, ◌+◌, ◌/◌, ◌%◌, ◌<◌, ◌≤◌, ◌⊎◌, ◌↔◌, ◌==◌, Option, MatchOption, Bool, true, false, slice_index, if◌then◌else◌}
+use Rattle.std.specs.Prelude.{◌≡◌, ℕ, zero, suc, ◌+◌, ◌/◌, ◌%◌, ◌<◌, ◌≤◌, ◌⊎◌, ◌↔◌, ◌==◌, Option, MatchOption, Bool, true, false, slice_index, [], if◌then◌else◌}
 use Rattle.std.specs.Int.{bit_at}
 use Rattle.node_sets.specs.declared.sets.NodeSet.{NodeSet}
 use Rattle.node_sets.specs.declared.sets.TheConstants.{MOST_NODES}
@@ -50,3 +50,7 @@ pub record Adds (Add : ℕ → Type 0) (before after : NodeSet) (changed : Bool)
   pub all : (x : ℕ) → IsIn after x ↔ (IsIn before x ⊎ Add x)
   pub same : changed ≡ false → after ≡ before
   pub fewer : changed ≡ true → room after < room before
+
+-- the set of no words, which holds nothing
+abbrev pub no_nodes : NodeSet
+no_nodes = record { words = [] }

@@ -1,24 +1,23 @@
 //! Graphs of numbered nodes.
 
-ghost use Rattle.std.specs.Prelude.{◌≡◌, ℕ, ◌<◌, ◌≤◌, List, [], Contains};
+ghost use Rattle.std.specs.Prelude.{ℕ, ◌<◌, ◌↔◌, List};
 ghost use Rattle.node_sets.specs.declared.sets.TheConstants.{MOST_NODES};
+ghost use Rattle.node_sets.specs.Sets.{IsIn};
+ghost use Rattle.node_sets.specs.Paths.{ParentArc};
 
-/// Numbered nodes, each with a list of its parents.
+use crate::sets::NodeSet;
+
+/// Numbered nodes and the arcs between them, by each node's parents.
 pub trait Graph {
-    ghost size_of: { Self → ℕ };
-
     ghost parents_of: { Self → ℕ → List ℕ };
 
-    /// How many nodes there are.
-    fn count(&self) -> usize
-        ensures count { result ≡ size_of self.now }
-        ensures most { size_of self.now ≤ MOST_NODES };
-
     /// The parents of a node.
-    fn parents(&self, v: usize) -> &[usize]
-        requires { v < size_of self.now }
-        ensures parents { result.now ≡ parents_of self.now v }
-        ensures known { (p : ℕ) → Contains result.now p → p < MOST_NODES };
+    fn parent_set(&self, v: usize) -> NodeSet
+        requires { v < MOST_NODES }
+        ensures { (u : ℕ) → IsIn result u ↔ ParentArc (parents_of self.now) u v };
 
-    ghost none_past: { (graph : Self) (v : ℕ) → size_of graph ≤ v → parents_of graph v ≡ [] };
+    /// The children of a node.
+    fn child_set(&self, u: usize) -> NodeSet
+        requires { u < MOST_NODES }
+        ensures { (v : ℕ) → IsIn result v ↔ ParentArc (parents_of self.now) u v };
 }

@@ -1,10 +1,10 @@
-//! Descendants and ancestors of a set.
+//! Children, parents, descendants and ancestors of a set.
 
-ghost use Rattle.std.specs.Prelude.{ℕ, ◌<◌, ◌↔◌, IsTrue};
+ghost use Rattle.std.specs.Prelude.{ℕ, ◌<◌, ◌↔◌};
 ghost use Rattle.node_sets.specs.declared.sets.TheConstants.{MOST_NODES};
-ghost use Rattle.node_sets.specs.Sets.{IsIn, room};
+ghost use Rattle.node_sets.specs.Sets.{IsIn};
 ghost use Rattle.node_sets.specs.Paths.{ParentArc, LeadsFrom, LeadsInto};
-ghost use Rattle.node_sets.specs.Sweeps.{AreReachedAlong, EndsClosed, GrowsAlong, IsSweep, IsVisit};
+ghost use Rattle.node_sets.specs.Steps.{Step, StepsFrom, AreReachedAlong};
 
 use crate::graphs::Graph;
 use crate::sets::NodeSet;
@@ -16,108 +16,70 @@ enum Way {
     Up,
 }
 
-fn has_parent_in<G: Graph>(graph: &G, v: usize, set: &NodeSet) -> bool
-    requires { v < G.size_of graph.now }
-    ensures { IsTrue result ↔ ((p : ℕ) × ParentArc (G.parents_of graph.now) p v × IsIn set.now p) }
-{
-    for p in graph.parents(v) {
-        if set.holds(*p) {
-            return true;
-        }
-    }
-    false
-}
-
-/// Adds the node if a parent is in the set.
-fn follow_down<G: Graph>(graph: &G, v: usize, set: &mut NodeSet) -> bool
-    requires within { v < G.size_of graph.now }
-    requires small { v < MOST_NODES }
-    ensures { IsVisit (G.parents_of graph.now) Way.Down v set.old set.new result }
-{
-    if set.holds(v) {
-        return false;
-    }
-    has_parent_in(graph, v, set) && set.insert(v)
-}
-
-/// Adds the parents if the node is in the set.
-fn follow_up<G: Graph>(graph: &G, v: usize, set: &mut NodeSet) -> bool
-    requires within { v < G.size_of graph.now }
-    requires small { v < MOST_NODES }
-    ensures { IsVisit (G.parents_of graph.now) Way.Up v set.old set.new result }
-{
-    set.holds(v) && set.insert_all(graph.parents(v))
-}
-
-fn visit<G: Graph>(graph: &G, way: Way, v: usize, set: &mut NodeSet) -> bool
-    requires within { v < G.size_of graph.now }
-    requires small { v < MOST_NODES }
-    ensures { IsVisit (G.parents_of graph.now) way v set.old set.new result }
+/// The nodes to which a step leads from the node.
+fn step_from<G: Graph>(graph: &G, way: Way, u: usize) -> NodeSet
+    requires { u < MOST_NODES }
+    ensures { (v : ℕ) → IsIn result v ↔ Step (G.parents_of graph.now) way u v }
 {
     match way {
-        Way::Down => follow_down(graph, v, set),
-        Way::Up => follow_up(graph, v, set),
+        Way::Down => graph.child_set(u),
+        Way::Up => graph.parent_set(u),
     }
 }
 
-/// Follows every arc once, nodes from first to last.
-fn sweep_on<G: Graph>(graph: &G, way: Way, set: &mut NodeSet) -> bool
-    ensures { IsSweep (G.parents_of graph.now) way (G.size_of graph.now) set.old set.new result }
+/// The nodes to which a step leads from one of the set.
+fn steps_from<G: Graph>(graph: &G, way: Way, set: &NodeSet) -> NodeSet
+    ensures { (v : ℕ) → IsIn result v ↔ StepsFrom (G.parents_of graph.now) way (IsIn set.now) v }
 {
-    let mut changed = false;
-    for v in 0..graph.count() {
-        changed |= visit(graph, way, v, set);
+    let mut reached = NodeSet::empty();
+    let mut from = 0;
+    'nodes: while let Some(u) = set.first_from(from) {
+        reached = reached.union(&step_from(graph, way, u));
+        from = u + 1;
     }
-    changed
+    reached
 }
 
-/// Follows every arc once, nodes from last to first.
-fn sweep_back<G: Graph>(graph: &G, way: Way, set: &mut NodeSet) -> bool
-    ensures { IsSweep (G.parents_of graph.now) way (G.size_of graph.now) set.old set.new result }
+/// The nodes to which steps lead from those of the set, wave by wave: each node is followed once.
+fn follow<G: Graph>(graph: &G, way: Way, set: NodeSet) -> NodeSet
+    ensures { AreReachedAlong (G.parents_of graph.now) way set result }
 {
-    let mut changed = false;
-    for v in (0..graph.count()).rev() {
-        changed |= visit(graph, way, v, set);
+    let mut reached = set;
+    let mut followed = NodeSet::empty();
+    'waves: while let Some(_) = reached.difference(&followed).first_from(0) {
+        let fresh = reached.difference(&followed);
+        followed = reached;
+        reached = reached.union(&steps_from(graph, way, &fresh));
     }
-    changed
+    reached
 }
 
-/// Sweeps on and back, the way of the arcs first. It says whether there can be more to follow.
-fn sweep_twice<G: Graph>(graph: &G, way: Way, set: &mut NodeSet) -> bool
-    ensures kept { (v : ℕ) → IsIn set.old v → IsIn set.new v }
-    ensures sound { GrowsAlong (G.parents_of graph.now) way set.old set.new }
-    ensures fewer { IsTrue result → room set.new < room set.old }
-    ensures closed { EndsClosed (G.parents_of graph.now) way (G.size_of graph.now) result set.new }
+/// The nodes that have a parent in the set. It goes through the set once.
+pub fn children_of_any<G: Graph>(graph: &G, set: &NodeSet) -> NodeSet
+    ensures { (v : ℕ) → IsIn result v
+        ↔ ((u : ℕ) × IsIn set.now u × ParentArc (G.parents_of graph.now) u v) }
 {
-    match way {
-        Way::Down => sweep_on(graph, way, set) && sweep_back(graph, way, set),
-        Way::Up => sweep_back(graph, way, set) && sweep_on(graph, way, set),
-    }
+    steps_from(graph, Way::Down, set)
 }
 
-/// Adds the nodes to which steps lead from those in the set.
-fn follow<G: Graph>(graph: &G, way: Way, set: &mut NodeSet)
-    ensures { AreReachedAlong (G.parents_of graph.now) way set.old set.new }
+/// The nodes that have a child in the set. It goes through the set once.
+pub fn parents_of_any<G: Graph>(graph: &G, set: &NodeSet) -> NodeSet
+    ensures { (u : ℕ) → IsIn result u
+        ↔ ((v : ℕ) × IsIn set.now v × ParentArc (G.parents_of graph.now) u v) }
 {
-    'sweeps: while sweep_twice(graph, way, set) {}
+    steps_from(graph, Way::Up, set)
 }
 
-/// These nodes, and all to which a path of arcs leads from one of them. Where parents stand
-/// before their children it goes over all arcs twice, and else at worst once for each node that it adds and once more.
+/// These nodes, and all to which a path of arcs leads from one of them. It looks once at the children of each.
 pub fn descendants<G: Graph>(graph: &G, of: NodeSet) -> NodeSet
     ensures { (v : ℕ) → IsIn result v ↔ LeadsFrom (ParentArc (G.parents_of graph.now)) (IsIn of) v }
 {
-    let mut set = of;
-    follow(graph, Way::Down, &mut set);
-    set
+    follow(graph, Way::Down, of)
 }
 
-/// These nodes, and all from which a path of arcs leads to one of them. Where parents stand
-/// before their children it goes over all arcs twice, and else at worst once for each node that it adds and once more.
+/// These nodes, and all from which a path of arcs leads to one of them. It looks once at the parents of each.
 pub fn ancestors<G: Graph>(graph: &G, of: NodeSet) -> NodeSet
     ensures { (v : ℕ) → IsIn result v ↔ LeadsInto (ParentArc (G.parents_of graph.now)) (IsIn of) v }
 {
-    let mut set = of;
-    follow(graph, Way::Up, &mut set);
-    set
+    follow(graph, Way::Up, of)
 }

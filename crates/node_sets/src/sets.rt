@@ -1,6 +1,6 @@
 //! Sets of node numbers.
 
-ghost use Rattle.std.specs.Prelude.{◌≡◌, ℕ, ◌<◌, ◌≤◌, ◌⊎◌, ◌↔◌, Contains, MatchOption};
+ghost use Rattle.std.specs.Prelude.{◌≡◌, ℕ, ◌<◌, ◌≤◌, ◌⊎◌, ◌↔◌, Contains, MatchBool, MatchOption};
 ghost use Rattle.node_sets.specs.declared.sets.TheConstants.{MOST_NODES};
 
 /// How many nodes a diagram may have.
@@ -39,6 +39,13 @@ impl NodeSet {
         ensures { result ≡ holds self.now v }
     {
         (self.words[v / 64] >> (v % 64)) & 1 == 1
+    }
+
+    /// Whether no node is in the set.
+    pub fn is_empty(&self) -> bool
+        ensures { MatchBool result (HasNoneFrom self.now 0) ((v : ℕ) × IsFirstFrom self.now 0 v) }
+    {
+        self.first_from(0).is_none()
     }
 
     /// The first node of the set from this number on. It looks at each of the words once at most, so a walk through the

@@ -1,27 +1,30 @@
 //! Each call once, over a small graph.
 
-ghost use Rattle.std.specs.Prelude.{[], ◌∷◌, slice_index_or};
-ghost use Rattle.std.proofs.lemmas.List.{get_or_past};
+ghost use Rattle.std.specs.Prelude.{[], ◌∷◌, ◌==◌, if◌then◌else◌};
 
-use crate::{Graph, NodeSet, ancestors, descendants};
+use crate::{ArcSets, Graph, NodeSet, ancestors, children_of_any, descendants, parents_of_any};
 
 /// Two nodes and an arc from the first to the second.
 struct OneArc;
 
 impl Graph for OneArc {
-    ghost size_of = { λ g. 2 };
+    ghost parents_of = { λ g v. if v == 1 then 0 ∷ [] else [] };
 
-    ghost parents_of = { λ g v. slice_index_or ([] ∷ (0 ∷ []) ∷ []) v [] };
-
-    fn count(&self) -> usize {
-        2
+    fn parent_set(&self, v: usize) -> NodeSet {
+        if v == 1 {
+            NodeSet::of(0)
+        } else {
+            NodeSet::empty()
+        }
     }
 
-    fn parents(&self, v: usize) -> &[usize] {
-        if v == 1 { &[0] } else { &[] }
+    fn child_set(&self, u: usize) -> NodeSet {
+        if u == 0 {
+            NodeSet::of(1)
+        } else {
+            NodeSet::empty()
+        }
     }
-
-    ghost none_past = { λ g v past. get_or_past ([] ∷ (0 ∷ []) ∷ []) v [] past };
 }
 
 // numbers in each word of a set, and at their ends
@@ -61,6 +64,29 @@ fn joins_sets(rt: HostRuntime) {
     assert!(rt; either.holds(7) && either.holds(200) && either.holds(130) && !either.holds(71));
     assert!(rt; !both.holds(7) && both.holds(200) && !both.holds(130));
     assert!(rt; rest.holds(7) && !rest.holds(200) && !rest.holds(130));
+}
+
+#[test]
+fn keeps_arcs(rt: HostRuntime) {
+    let mut arcs = ArcSets::none();
+    arcs.add_arcs_into(200, &[3, 70]);
+    arcs.add_arcs_into(3, &[255]);
+    let into = arcs.parents(200);
+    assert!(rt; into.holds(3) && into.holds(70) && !into.holds(255));
+    let out = arcs.children(3);
+    assert!(rt; out.holds(200) && !out.holds(3) && !out.holds(255));
+    let before = arcs.children(255);
+    assert!(rt; before.holds(3) && !before.holds(200));
+    let none = arcs.parents(70);
+    assert!(rt; none.is_empty());
+}
+
+#[test]
+fn steps_along_an_arc(rt: HostRuntime) {
+    let children = children_of_any(&OneArc, &NodeSet::of(0));
+    assert!(rt; children.holds(1) && !children.holds(0));
+    let parents = parents_of_any(&OneArc, &NodeSet::of(1));
+    assert!(rt; parents.holds(0) && !parents.holds(1));
 }
 
 #[test]

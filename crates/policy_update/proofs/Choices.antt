@@ -1,13 +1,15 @@
 -- The choice of a row, improved: the walk over the states, row by row, and gains that compare alike.
-use Rattle.std.proofs.Common.{◌≡◌, ◌∙◌, ◌⊎◌, ◌↔◌, ℕ, ◌+◌, ◌<◌, ◌≤◌, List, [], ◌∷◌, ◌++◌, All, None, length, length-append, slice_index_or, refl, sym, ap, subst, inl, inr, arith, ℤ, ◌≤ℤ◌, ◌<ℤ◌}
+use Rattle.std.proofs.Common.{◌≡◌, ◌∙◌, ◌⊎◌, ◌↔◌, ℕ, ◌+◌, ◌<◌, ◌≤◌, List, [], ◌∷◌, ◌++◌, All, None, length, length-append, slice_index_or, refl, sym, ap, subst, inl, inr, arith, pos, ℤ, ◌≤ℤ◌, ◌<ℤ◌}
 use Rattle.std.proofs.lemmas.List.{get_or_append_left}
 use Rattle.std.proofs.lemmas.List.Elements.{All-push}
 use Rattle.std.proofs.Math.Decide.{ℕ_discrete}
 use Rattle.std.proofs.lemmas.Int.{ints}
 use Rattle.maid_model.specs.declared.answers.Row.{Row}
 use Rattle.maid_model.specs.Answers.{no_row}
+use Rattle.maid_model.specs.Gains.{gain_in}
 use Rattle.reach_laws.specs.Updates.{IsImproved}
-use Rattle.reach_laws.proofs.Steps.{compare}
+use Rattle.policy_update.specs.Steps.{state_gain}
+use Rattle.reach_laws.proofs.Steps.{compare, row_cases}
 
 -- what is not at most is greater, and what is greater is not at most
 greater : (x y : ℤ) → ((y ≤ℤ x) → ⊥) → x <ℤ y
@@ -87,6 +89,20 @@ best_same gain choice best k h few = record { kept = h.kept; greatest = λ s l. 
     go : (s : ℕ) → s < k + 1 → Dec (s ≡ k) → gain s ≤ℤ gain best
     go s l (yes e) = subst (λ z. gain z ≤ℤ gain best) (sym e) few
     go s l (no n) = h.greatest s (at_most k s l n)
+
+-- a row has one improved choice, so one that changes does not stay
+pub one_choice : (gain : ℕ → ℤ) (states before after : ℕ) → IsImproved gain states before after → IsImproved gain states before before → after ≡ before
+one_choice gain states before after i j = go (row_cases gain states before after i)
+  where
+    go : ((after ≡ before) × ((s : ℕ) → s < states → gain s ≤ℤ gain before)) ⊎ (gain before <ℤ gain after) → after ≡ before
+    go (inl h) = h.0
+    go (inr less) = absurd (not_most (gain before) (gain after) less ((j.takes after i.within less).greatest after i.within))
+
+-- a row that is improved by its own gains is improved by those of all rows
+pub improved_in : (gains own : List ℤ) (states row before after : ℕ) → length own ≡ states → ((s : ℕ) → s < states → slice_index_or own s (pos 0) ≡ gain_in gains states s row) → IsImproved (state_gain own) (length own) before after
+    → IsImproved (λ s. gain_in gains states s row) states before after
+improved_in gains own states row before after count same h =
+    improved_alike (state_gain own) (λ s. gain_in gains states s row) states before after (equal_alike (state_gain own) (λ s. gain_in gains states s row) states same) (subst (λ n. IsImproved (state_gain own) n before after) count h)
 
 -- ---- row by row
 -- the first rows, each improved by its own gains, and without worths

@@ -21,7 +21,7 @@ use Rattle.maid_laws.proofs.SameProfile.{decided, decisions_apart, same_profile}
 use Rattle.reach_laws.specs.Equilibria.{ChoicesOfAnswers}
 use Rattle.reach_laws.specs.Updates.{IsImproved, IsStep, start_profile}
 use Rattle.reach_laws.proofs.Listed.{below_of, same_choices}
-use Rattle.policy_update.specs.Steps.{AreImproved, AreSameChoices, IsProfileOf, first_choices}
+use Rattle.policy_update.specs.Steps.{AreImproved, AreSameChoices, IsProfileOf, KeepsRows, first_choices}
 
 -- ---- the rows found at a decision
 abbrev pub decided_by : List AnswerView → List ℕ
@@ -79,9 +79,6 @@ module _ (nodes : List NodeView) (answers : List AnswerView) (h : AreChoices nod
 
   pub choices_worthless : (v : ℕ) → IsDecision nodes v → All (λ (r : Row). r.worth ≡ None) (rows_at answers v)
   choices_worthless v k = rows_found (λ u rows. All (λ (r : Row). r.worth ≡ None) rows) answers h.worthless v (listed v k)
-
-  pub place_decides : (i : ℕ) (e : AnswerView) → i < length answers → IsDecision nodes (get_or answers i e).decision
-  place_decides i e l = (h.fits i e l).decision
 
   pub put_choices : (i : ℕ) (a : AnswerView) → i < length answers → a.decision ≡ (get_or answers i a).decision → FitsAnswer nodes a → HasNoWorths a → AreChoices nodes (set answers i a)
   put_choices i a l e fits none = record {
@@ -189,6 +186,13 @@ decided_get [] i e l = absurd (omega arith)
 decided_get (a ∷ answers) zero e l = refl
 decided_get (a ∷ answers) (suc i) e l = decided_get answers i e (omega arith)
 
+-- there is an answer for each decision, and the one at a place is for the decision that stands there
+pub places : (nodes : List NodeView) (answers : List AnswerView) → AreChoices nodes answers → length answers ≡ length (decisions_of nodes)
+places nodes answers h = sym (length-map answers (λ (a : AnswerView). a.decision)) ∙ ap length h.follow
+
+pub place_is : (nodes : List NodeView) (answers : List AnswerView) → AreChoices nodes answers → (i : ℕ) (e : AnswerView) → i < length answers → (get_or answers i e).decision ≡ get_or (decisions_of nodes) i 0
+place_is nodes answers h i e l = sym (decided_get answers i e l) ∙ ap (λ ds. get_or ds i 0) h.follow
+
 -- these rows improve those of the answer at the place
 pub record IsImprovement (nodes : List NodeView) (answers : List AnswerView) (p : List RuleView) (i : ℕ) (a : AnswerView) (after : List Row) : Type 0 where
   pub plan : IsProfileOf nodes answers p
@@ -204,6 +208,15 @@ improvement_is nodes answers p i a e after plan l is improved = record {
   here = is ∙ get_or_default answers i e a l;
   improved = subst (λ (x : AnswerView). AreImproved (gain_at nodes p x.decision) (states_of nodes x.decision) x.rows after) (sym is) improved;
 }
+
+-- rows that all keep their choices improve themselves
+pub keeping_is : (nodes : List NodeView) (answers : List AnswerView) (p : List RuleView) (i : ℕ) (a e : AnswerView) → IsProfileOf nodes answers p → i < length answers → a ≡ get_or answers i e
+    → KeepsRows nodes p (get_or answers i e) → IsImprovement nodes answers p i a a.rows
+keeping_is nodes answers p i a e plan l is keeps = improvement_is nodes answers p i a e a.rows plan l is (subst (λ (x : AnswerView). AreImproved (gain_at nodes p x.decision) (states_of nodes x.decision) x.rows a.rows) is record {
+  count = refl;
+  each = subst (λ (x : AnswerView). KeepsRows nodes p x) (sym is) keeps;
+  worthless = subst HasNoWorths (sym is) (plan.choices.worthless i e l);
+})
 
 -- this rule has the rows' choices, and replaces the decision's rule
 pub record IsPut (nodes : List NodeView) (p q : List RuleView) (a : AnswerView) (after : List Row) : Type 0 where

@@ -2,3 +2,4 @@ pub mod Faults
 pub mod Updated
 pub mod Laws
 pub mod Steps
+pub mod Kept

@@ -1,6 +1,6 @@
 -- What the steps of a round promise one another. Only private functions cite it.
 use Rattle.std.specs.Global.{Vec}
-use Rattle.std.specs.Prelude.{◌≡◌, ◌≢◌, ◌<◌, ◌≤◌, ℕ, ℤ, Bool, true, false, List, All, Option, None, Some, length, map, pos, replicate, slice_index_or}
+use Rattle.std.specs.Prelude.{◌≡◌, ◌≢◌, ◌<◌, ◌≤◌, ℕ, ℤ, Bool, true, false, List, All, Option, None, Some, MatchOption, length, map, pos, replicate, slice_index_or}
 use Rattle.maid_model.specs.declared.answers.Row.{Row}
 use Rattle.maid_model.specs.declared.limits.TheConstants.{MOST_PLAN_CELLS}
 use Rattle.maid_model.specs.Answers.{AreChoices, no_row, pure_profile}
@@ -8,11 +8,10 @@ use Rattle.maid_model.specs.Gains.{gain_at, gain_in}
 use Rattle.maid_model.specs.Nodes.{decisions_of, rows_of, states_of}
 use Rattle.maid_model.specs.Views.{NodeView, RuleView, AnswerView}
 use Rattle.reach_laws.specs.Updates.{IsImproved, IsReachedAfter, IsStep, IsUpdated}
-use Rattle.rule_solver.specs.declared.spaces.Workspaces.{Workspaces}
-use Rattle.rule_solver.specs.Rooms.{AreReady, HasRoomForRun}
-use Rattle.size_precheck.specs.declared.decisions.DecisionPlans.{DecisionPlans}
+use Rattle.rule_solver.specs.Rooms.{HasRoomForRun}
 use Rattle.size_precheck.specs.declared.runs.RunPlans.{RunPlans}
 use Rattle.size_precheck.specs.Decisions.{ArePlans}
+use Rattle.size_precheck.specs.Sizes.{ArePlansOfWorths}
 
 -- what a state gains in a row
 abbrev pub state_gain : List ℤ → ℕ → ℤ
@@ -33,6 +32,11 @@ pub record AreImproved (gain : ℕ → ℕ → ℤ) (states : ℕ) (before after
 abbrev pub AreImprovedBy : List ℤ → ℕ → List Row → List Row → Type 0
 AreImprovedBy gains states before after = AreImproved (gain_in gains states) states before after
 
+-- no state of a row has a greater gain than the row's choice, which it keeps
+abbrev pub KeepChoices : (ℕ → ℕ → ℤ) → ℕ → List Row → Type 0
+KeepChoices gain states rows = (row : ℕ) → row < length rows
+    → IsImproved (λ s. gain s row) states (choice_in rows row) (choice_in rows row)
+
 -- row by row the choices are the same
 abbrev pub AreSameChoices : List Row → List Row → Type 0
 AreSameChoices rows others =
@@ -43,9 +47,20 @@ abbrev pub Improves : List NodeView → List RuleView → AnswerView → List Ro
 Improves nodes p a rows =
     AreImproved (gain_at nodes p a.decision) (states_of nodes a.decision) a.rows rows
 
--- so the program has the rows
+-- they improve them, and a choice changes
 abbrev pub ImprovesRows : List NodeView → List RuleView → AnswerView → Vec Row → Type 0
-ImprovesRows nodes p a rows = Improves nodes p a rows.items
+ImprovesRows nodes p a rows =
+    Improves nodes p a rows.items × (AreSameChoices rows.items a.rows → ⊥)
+
+-- all rows of the answer keep their choices, with all other rules as they stand
+abbrev pub KeepsRows : List NodeView → List RuleView → AnswerView → Type 0
+KeepsRows nodes p a = KeepChoices (gain_at nodes p a.decision) (states_of nodes a.decision) a.rows
+
+-- so the program has the improved rows, and none where all keep their choices
+abbrev pub ImprovesOrKeeps :
+    List NodeView → List RuleView → AnswerView → Option (Vec Row) → Type 0
+ImprovesOrKeeps nodes p a rows =
+    MatchOption rows (KeepsRows nodes p a) (ImprovesRows nodes p a)
 
 -- the decision at the place in text order is improved
 abbrev pub IsStepAt : List NodeView → ℕ → List RuleView → List RuleView → Type 0
@@ -77,16 +92,9 @@ abbrev pub EndsAt : List NodeView → ℕ → List RuleView → Option ℕ → T
 EndsAt nodes rounds p None = IsReachedAfter nodes rounds p
 EndsAt nodes rounds p (Some n) = IsSettled nodes rounds p n
 
--- the plans of the decisions in text order, and room for each plan of their run within the limit
+-- the plans of the decisions in text order and those of the worths, and room for each within the limit
 pub record IsPlannedRun (nodes : List NodeView) (run : RunPlans) : Type 0 where
   pub plans : ArePlans nodes (decisions_of nodes) run.decisions.items
+  pub worths : ArePlansOfWorths nodes run.worths.items
   pub room : HasRoomForRun nodes run.size.cells
   pub limit : run.size.cells ≤ MOST_PLAN_CELLS
-
--- the plans of the decisions in text order, and workspaces with room for them
-pub record AreKept
-    (nodes : List NodeView) (plans : List DecisionPlans) (spaces : Workspaces) : Type 0 where
-  pub planned : ArePlans nodes (decisions_of nodes) plans
-  pub cells : ℕ
-  pub ready : AreReady cells spaces
-  pub room : HasRoomForRun nodes cells

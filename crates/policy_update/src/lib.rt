@@ -3,6 +3,7 @@
 #![tactic(auto)]
 
 mod faults;
+mod keeping;
 mod laws;
 mod limits;
 mod rounds;

@@ -1,46 +1,59 @@
 //! Rounds: the decisions are improved one by one.
 
-ghost use Rattle.std.specs.Prelude.{◌≡◌, ◌<◌, ℕ, IfOk, OnOk, length};
+ghost use Rattle.std.specs.Prelude.{◌≡◌, ◌<◌, ℕ, IfOk, OnOk, length, slice_index};
 ghost use Rattle.maid_laws.specs.Optimum.{IsPure};
 ghost use Rattle.maid_model.specs.Answers.{FitsAnswer};
+ghost use Rattle.maid_model.specs.Nodes.{decisions_of};
 ghost use Rattle.maid_model.specs.Scopes.{KeepsScopedBounds};
 ghost use Rattle.maid_model.specs.Subgames.{OwnsAll};
 ghost use Rattle.reach_laws.specs.Updates.{IsUpdateRound, start_profile};
-ghost use Rattle.size_precheck.specs.Decisions.{AreDecisionPlans};
-ghost use Rattle.policy_update.specs.Steps.{AreKept, EndsAt, ImprovesRows, IsProfileOf, IsStepAt, TellsChange};
-ghost use Rattle.rule_solver.specs.Rooms.{AreReadyForDecision};
+ghost use Rattle.policy_update.specs.Kept.{AreKept};
+ghost use Rattle.policy_update.specs.Steps.{EndsAt, ImprovesOrKeeps, IsProfileOf, IsStepAt, TellsChange};
 
-use crate::rows::{are_same_choices, improved_rows};
+use crate::keeping::Kept;
+use crate::rows::{improved_rows, keep_choices};
 use maid_model::{Answer, Diagram, Profile, Row, Rule, profile_has_rules};
 use part_laws::{parts_decide, scopes_are_parts};
 use reach_laws::pure_profiles_listed;
-use rule_solver::{Workspaces, row_gains_by};
-use size_precheck::DecisionPlans;
+use rule_solver::{Setting, Workspaces};
 use std::alloc::{AllocError, Global};
 
-/// The rows of an answer, each improved with all other rules as they stand, by its decision's plans.
+/// The rows of the answer at a place in text order, each improved with all other rules as they stand; `None` where all
+/// keep their choices.
 fn improvement(
     alloc: Global,
     diagram: &Diagram,
     profile: &Profile,
     answer: &Answer,
-    plans: &DecisionPlans,
+    place: usize,
+    kept: &Kept,
     spaces: &mut Workspaces,
-) -> Result<Vec<Row>, AllocError>
+) -> Result<Option<Vec<Row>>, AllocError>
     requires bound { KeepsScopedBounds diagram.now }
-    requires planned { AreDecisionPlans diagram.now.nodes answer.now.decision plans.now }
-    requires ready { AreReadyForDecision diagram.now.nodes answer.now.decision spaces.old }
+    requires kept { AreKept diagram.now.nodes kept.now spaces.old }
     requires pure { IsPure diagram.now.nodes profile.now }
     requires fits { FitsAnswer diagram.now.nodes answer.now }
-    ensures rows { IfOk result (ImprovesRows diagram.now.nodes profile.now answer.now) }
+    requires place { place < length (decisions_of diagram.now.nodes) }
+    requires here { answer.now.decision ≡ slice_index (decisions_of diagram.now.nodes) place }
+    ensures rows { IfOk result (ImprovesOrKeeps diagram.now.nodes profile.now answer.now) }
     ensures again { OnOk result (spaces.new ≡ spaces.old) }
 {
     // The part of the decision's scope has the whole's best states.
     scopes_are_parts();
     parts_decide();
     let states = diagram.states(answer.decision);
-    let gains = row_gains_by(alloc, diagram, profile, answer.decision, plans, spaces)?;
-    improved_rows(alloc, &gains, states, &answer.rows)
+    let setting = Setting {
+        diagram,
+        base: profile,
+        decision: answer.decision,
+        totals: &kept.totals,
+        scope: kept.scopes[place],
+    };
+    let gains = setting.row_gains(alloc, &kept.plans[place].goals, spaces)?;
+    if keep_choices(&gains, states, &answer.rows) {
+        return Ok(None);
+    }
+    Ok(Some(improved_rows(alloc, &gains, states, &answer.rows)?))
 }
 
 /// Improves the decision at a place in text order, with all other rules as they stand, and tells whether a row's choice
@@ -51,11 +64,11 @@ fn improve(
     profile: &mut Profile,
     answers: &mut [Answer],
     place: usize,
-    plans: &[DecisionPlans],
+    kept: &Kept,
     spaces: &mut Workspaces,
 ) -> Result<bool, AllocError>
     requires bound { KeepsScopedBounds diagram.now }
-    requires kept { AreKept diagram.now.nodes plans.now spaces.old }
+    requires kept { AreKept diagram.now.nodes kept.now spaces.old }
     requires plan { IsProfileOf diagram.now.nodes answers.old profile.old }
     requires place { place < length answers.old }
     ensures plan { OnOk result (IsProfileOf diagram.now.nodes answers.new profile.new) }
@@ -68,13 +81,15 @@ fn improve(
     profile_has_rules();
     let answer = &answers[place];
     let decision = answer.decision;
-    let rows = improvement(alloc, diagram, profile, answer, &plans[place], spaces)?;
-    if are_same_choices(&rows, &answer.rows) {
-        return Ok(false);
+    let improved = improvement(alloc, diagram, profile, answer, place, kept, spaces)?;
+    match improved {
+        Some(rows) => {
+            profile.put(Rule::pure(alloc, diagram, decision, &rows)?);
+            answers[place] = Answer { decision, rows };
+            Ok(true)
+        }
+        None => Ok(false),
     }
-    profile.put(Rule::pure(alloc, diagram, decision, &rows)?);
-    answers[place] = Answer { decision, rows };
-    Ok(true)
 }
 
 /// Goes through the decisions once, and tells whether the round raised.
@@ -83,11 +98,11 @@ fn go_round(
     diagram: &Diagram,
     profile: &mut Profile,
     answers: &mut [Answer],
-    plans: &[DecisionPlans],
+    kept: &Kept,
     spaces: &mut Workspaces,
 ) -> Result<bool, AllocError>
     requires bound { KeepsScopedBounds diagram.now }
-    requires kept { AreKept diagram.now.nodes plans.now spaces.old }
+    requires kept { AreKept diagram.now.nodes kept.now spaces.old }
     requires owner { (agent : ℕ) × OwnsAll diagram.now.nodes agent }
     requires plan { IsProfileOf diagram.now.nodes answers.old profile.old }
     ensures plan { OnOk result (IsProfileOf diagram.now.nodes answers.new profile.new) }
@@ -99,7 +114,7 @@ fn go_round(
     let _count = diagram.count();
     let mut raised = false;
     for place in 0..answers.len() {
-        let changed = improve(alloc, diagram, profile, answers, place, plans, spaces)?;
+        let changed = improve(alloc, diagram, profile, answers, place, kept, spaces)?;
         if changed {
             raised = true;
         }
@@ -114,11 +129,11 @@ pub(crate) fn settle(
     profile: &mut Profile,
     answers: &mut [Answer],
     rounds: u64,
-    plans: &[DecisionPlans],
+    kept: &Kept,
     spaces: &mut Workspaces,
 ) -> Result<Option<u64>, AllocError>
     requires bound { KeepsScopedBounds diagram.now }
-    requires kept { AreKept diagram.now.nodes plans.now spaces.old }
+    requires kept { AreKept diagram.now.nodes kept.now spaces.old }
     requires owner { (agent : ℕ) × OwnsAll diagram.now.nodes agent }
     requires plan { IsProfileOf diagram.now.nodes answers.old profile.old }
     requires start { profile.old ≡ start_profile diagram.now.nodes }
@@ -127,7 +142,7 @@ pub(crate) fn settle(
     ensures settled { IfOk result (EndsAt diagram.now.nodes rounds profile.new) }
 {
     for raised in 0..rounds {
-        if !go_round(alloc, diagram, profile, answers, plans, spaces)? {
+        if !go_round(alloc, diagram, profile, answers, kept, spaces)? {
             return Ok(Some(raised));
         }
     }

@@ -1,8 +1,9 @@
 //! The rows of one decision, improved.
 
 ghost use Rattle.std.specs.Prelude.{◌≡◌, ◌<◌, ◌*◌, ◌↔◌, All, IfOk, IsTrue, length};
+ghost use Rattle.maid_model.specs.Gains.{gain_in};
 ghost use Rattle.reach_laws.specs.Updates.{IsImproved};
-ghost use Rattle.policy_update.specs.Steps.{AreImprovedBy, AreSameChoices, state_gain};
+ghost use Rattle.policy_update.specs.Steps.{AreImprovedBy, KeepChoices, state_gain};
 
 use maid_model::Row;
 use rule_solver::row_gains;
@@ -20,6 +21,21 @@ fn improved(gains: &[i128], choice: usize) -> usize
         }
     }
     best
+}
+
+/// Whether each row keeps its choice: `gains` has a number for each row and state, the state fastest.
+pub(crate) fn keep_choices(gains: &[i128], states: usize, rows: &[Row]) -> bool
+    requires all { length gains.now ≡ length rows.now * states }
+    requires choices { All (λ r. r.choice < states) rows.now }
+    ensures { IsTrue result ↔ KeepChoices (gain_in gains.now states) states rows.now }
+{
+    for (row, before) in rows.iter().enumerate() {
+        let gains = row_gains(gains, rows.len(), states, row);
+        if improved(gains, before.choice) != before.choice {
+            return false;
+        }
+    }
+    true
 }
 
 /// The rows, each improved: `gains` has a number for each row and state, the state fastest.
@@ -42,17 +58,4 @@ pub(crate) fn improved_rows(
         })?;
     }
     Ok(after)
-}
-
-/// Whether as many rows have the same choices.
-pub(crate) fn are_same_choices(rows: &[Row], others: &[Row]) -> bool
-    requires { length rows.now ≡ length others.now }
-    ensures { IsTrue result ↔ AreSameChoices rows.now others.now }
-{
-    for (row, other) in others.iter().enumerate() {
-        if rows[row].choice != other.choice {
-            return false;
-        }
-    }
-    true
 }

@@ -10,12 +10,13 @@ ghost use Rattle.policy_update.specs.Steps.{IsPlannedRun};
 ghost use Rattle.policy_update.specs.Updated.{IsLocallyOptimal, IsUpdateOf, RoundsRaise};
 
 use crate::UpdateFault;
+use crate::keeping::Kept;
 use crate::limits::{keep_bound, keep_one_owner, keep_sizes};
 use crate::rounds::settle;
 use crate::starting::first_choices;
 use maid_model::{Answer, Diagram, Profile, Ratio};
 use reach_laws::{local_optimum, pure_profiles_listed, round_raises};
-use rule_solver::{Workspaces, expected_by};
+use rule_solver::{Workspaces, expected_along};
 use size_precheck::RunPlans;
 use std::alloc::Global;
 use std::marker::Model;
@@ -70,6 +71,7 @@ fn update_within(
     let _count = diagram.count();
     let mut answers = first_choices(alloc, diagram, decisions)?;
     let mut profile = Profile::pure(alloc, diagram, &answers)?;
+    let kept = Kept::new(alloc, diagram, decisions, &profile, &run.decisions)?;
     let mut spaces = Workspaces::reserve(alloc, run.size.cells as usize)?;
     let settled = settle(
         alloc,
@@ -77,10 +79,10 @@ fn update_within(
         &mut profile,
         &mut answers,
         rounds,
-        &run.decisions,
+        &kept,
         &mut spaces,
     )?;
-    let gains = expected_by(alloc, diagram, &profile, &mut spaces)?;
+    let gains = expected_along(alloc, diagram, &profile, &run.worths, &mut spaces)?;
     match settled {
         Some(raised) => Ok(Updated {
             rounds: raised,
@@ -102,9 +104,10 @@ fn update_within(
 /// state of greatest gain. A round raises where it changes a choice; the result is what stands before the first round that
 /// does not. No other rule of any one decision is worth more to the agent.
 ///
-/// The decisions' plans are made once and kept, and two workspaces are reserved once, of small and of wide cells, with
-/// the most cells of a plan. A round asks `rule_solver::row_gains_by` once for each decision, which runs the plans of
-/// the decision's goals; at the end `rule_solver::expected_by` makes and runs one plan for each utility.
+/// All plans are made once and kept, with the decisions' scopes and the totals of all nodes, and the workspaces are
+/// reserved once, with room for the most cells of a plan. A round asks `rule_solver::Setting::row_gains` once for each
+/// decision, which runs the plans of the decision's goals, and takes memory for new rows only where a choice changes; at
+/// the end `rule_solver::expected_along` runs the plan of each utility.
 ///
 /// # Errors
 ///

@@ -9,3 +9,5 @@ mod Tabled
 mod Counted
 mod Agents
 mod Finding
+mod Followed
+mod UnderChoices

@@ -6,6 +6,7 @@
 mod answering;
 mod counting;
 mod faults;
+mod following;
 mod found;
 mod games;
 mod keys;

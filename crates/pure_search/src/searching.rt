@@ -79,9 +79,10 @@ fn search_within(alloc: Global, diagram: &Diagram) -> Result<Pure, PureFault>
 /// text order and the last row of the last decision fastest, from which no agent gains by other rules of its own, pure or
 /// mixed; and each agent's expected utility under it.
 ///
-/// For each agent that decides it goes once through all pure profiles; in each through all rows of the decisions, and by
-/// one walk through those worlds of the part that matters to the agent that have weight under the profile, for which it
-/// lists the part's tables and rules. It keeps three numbers and a mark for each profile.
+/// For each agent that decides it lists the tables of the part that matters to the agent once, and goes once through all
+/// pure profiles; in each through all rows of the decisions, whose rules it exchanges where their choices changed, and by
+/// one walk through those worlds of the part that have weight under the profile. It keeps three numbers and a mark for
+/// each profile.
 ///
 /// # Errors
 ///

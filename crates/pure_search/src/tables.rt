@@ -4,9 +4,11 @@ ghost use Rattle.std.specs.Prelude.{◌≡◌, ◌<◌, ◌+◌, IfOk, OnOk};
 ghost use Rattle.maid_model.specs.Nodes.{decisions_of};
 ghost use Rattle.maid_model.specs.Scopes.{scope_for};
 ghost use Rattle.maid_model.specs.Worlds.{IsWorld};
-ghost use Rattle.pure_search.specs.Games.{IsGameOf, IsSearched, MarksBest, MarksStable, counts_for, key_of, part_gain, IsGainTableOf, list_count, part_of_agent};
+ghost use Rattle.pure_search.specs.Following.{FollowsChoices};
+ghost use Rattle.pure_search.specs.Games.{IsGameOf, IsSearched, MarksBest, MarksStable, counts_for, key_of, IsGainTableOf, list_count, part_of_agent};
 
 use crate::answering::profile_of;
+use crate::following::follow;
 use crate::games::Game;
 use crate::keys::key_of;
 use crate::marks::keep_greatest;
@@ -14,7 +16,7 @@ use crate::odometer::{first_choices, next_choices};
 use diagram_graph::{SubDiagram, part};
 use maid_model::Diagram;
 use std::alloc::{AllocError, Global};
-use tree_checker::{gain_over, rules_in_part, utilities_of};
+use tree_checker::{AgentSum, rules_in_part, utilities_of};
 
 /// For each list of choices, in their order, the number of the others' choices, and what it gives the agent.
 #[derive(Drop)]
@@ -37,27 +39,27 @@ pub(crate) fn part_for(
     part(alloc, diagram, &utilities)
 }
 
-/// What the choices give the agent, by one walk through the worlds of its part that have weight under them.
-fn gain_under(
+/// The agent's sum in its part, under the choices.
+fn sum_under(
     alloc: Global,
     diagram: &Diagram,
     game: &Game,
     agent: usize,
     part: &SubDiagram,
     choices: &[usize],
-) -> Result<i128, AllocError>
+) -> Result<AgentSum, AllocError>
     requires decisions { game.now.decisions.items ≡ decisions_of diagram.now.nodes }
     requires agent { agent < diagram.now.agents }
     requires bound { IsSearched diagram.now }
     requires part { part.now.diagram ≡ part_of_agent diagram.now agent }
     requires nodes { part.now.nodes.items ≡ scope_for diagram.now.nodes agent }
     requires choices { IsWorld (counts_for diagram.now.nodes) choices.now }
-    ensures { IfOk result (λ gain. gain ≡ part_gain diagram.now.nodes agent choices.now) }
+    ensures { IfOk result (FollowsChoices diagram.now.nodes agent choices.now) }
 {
     let _count = diagram.count();
     let profile = profile_of(alloc, diagram, &game.decisions, choices)?;
     let rules = rules_in_part(alloc, diagram, &profile, &part.nodes)?;
-    gain_over(alloc, &part.diagram, &rules, agent)
+    AgentSum::new(alloc, &part.diagram, rules, agent)
 }
 
 /// The table of the agent.
@@ -75,14 +77,27 @@ fn table_for(
     let _count = diagram.count();
     let part = part_for(alloc, diagram, agent)?;
     let mut choices = first_choices(alloc, &game.counts)?;
+    let mut before = Vec::from_slice(alloc, &choices)?;
+    let mut sum = sum_under(alloc, diagram, game, agent, &part, &choices)?;
     let mut keys = Vec::new(alloc);
     let mut gains = Vec::new(alloc);
     'profiles: loop {
-        gains.push(gain_under(alloc, diagram, game, agent, &part, &choices)?)?;
+        gains.push(sum.gain(&part.diagram))?;
         keys.push(key_of(agent, &game.counts, &game.owners, &choices))?;
+        before.copy_from_slice(&choices);
         if !next_choices(&game.counts, &mut choices) {
             return Ok(Table { keys, gains });
         }
+        follow(
+            alloc,
+            diagram,
+            &game.decisions,
+            agent,
+            &part,
+            &before,
+            &choices,
+            &mut sum,
+        )?;
     }
 }
 

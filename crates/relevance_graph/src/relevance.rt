@@ -69,7 +69,7 @@ impl Relevance {
 }
 
 /// The relevance graph of the diagram. It searches once for each decision of two states or more, from all utilities of
-/// its agent that descend from it, which goes over all arcs a few times: decisions times arcs in all, and for the order
+/// its agent that descend from it, which looks at each node a few times: decisions times nodes in all, and for the order
 /// or the cycle at most as many looks as there are nodes times pairs of which one relies on the other.
 ///
 /// # Errors

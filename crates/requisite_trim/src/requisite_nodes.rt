@@ -18,7 +18,7 @@ pub struct RequisiteNodes {
 }
 
 impl RequisiteNodes {
-    /// Those of the decision, found by one search from its goals. It takes no memory, and goes over all arcs a few times.
+    /// Those of the decision, found by one search from its goals. It takes no memory, and looks at each node a few times.
     pub fn of(diagram: &Diagram, decision: usize) -> RequisiteNodes
         requires { IsDecision diagram.now.nodes decision }
         ensures { TellsNeeds diagram.now.nodes decision result }

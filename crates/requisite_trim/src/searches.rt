@@ -14,7 +14,7 @@ use maid_model::Diagram;
 
 /// Whether the parent of the decision is requisite: it is live, and given the decision and its other parents an active
 /// walk leads from it to a utility of the decision's agent that descends from the decision (Lauritzen and Nilsson 2001).
-/// A parent of one state never is. It takes no memory, and goes over all arcs a few times.
+/// A parent of one state never is. It takes no memory, and looks at each node a few times.
 pub fn requisite(diagram: &Diagram, parent: usize, decision: usize) -> bool
     requires decision { IsDecision diagram.now.nodes decision }
     requires arc { Arc diagram.now.nodes parent decision }

@@ -5,7 +5,7 @@ ghost use Rattle.requisite_trim.specs.Trims.{IsTrimming};
 
 use crate::looks::first_to_remove;
 use arc_laws::trimmed_optimum;
-use diagram_graph::{copy_diagram, without_arc};
+use diagram_graph::{copy_diagram, lose_arc};
 use maid_model::Diagram;
 use std::alloc::{AllocError, Global};
 
@@ -22,8 +22,8 @@ pub struct Trimmed {
 /// keeps may go at a later one. Where one agent owns all decisions, the trimmed diagram has the same optimum, also where
 /// decisions rely on one another in a cycle.
 ///
-/// A look searches once for each decision, which goes over all arcs a few times: decisions times arcs for each removed
-/// arc. Each removal copies the diagram.
+/// A look searches once for each decision, which looks at each node a few times: decisions times nodes for each removed
+/// arc. The diagram is copied once.
 ///
 /// # Errors
 ///
@@ -36,7 +36,7 @@ pub fn trim(alloc: Global, diagram: &Diagram) -> Result<Trimmed, AllocError>
     let mut removed = Vec::new(alloc);
     let mut trimmed = copy_diagram(alloc, diagram)?;
     'looks: while let Some((from, to)) = first_to_remove(&trimmed) {
-        trimmed = without_arc(alloc, &trimmed, from, to)?;
+        trimmed = lose_arc(trimmed, from, to);
         removed.push((from, to))?;
     }
     let _count = trimmed.count();

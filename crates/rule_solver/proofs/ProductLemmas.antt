@@ -57,3 +57,61 @@ module _ (totals : List ℕ) (set : NodeSet) where
 
       chain : (a b w : ℕ) → a * 1 ≤ b → b ≡ w → a ≤ w
       chain a b w h e = omega (arith, h, e)
+
+  -- nodes that the set lacks change no product
+  pub gap : (n from : ℕ) → from + n ≤ length totals → ((w : ℕ) → from ≤ w → w < from + n → holds set w ≡ true → ⊥) → product_from totals set from ≡ product_from totals set (from + n)
+  gap zero from l none = ap (product_from totals set) (nought from)
+    where
+      nought : (a : ℕ) → a ≡ a + 0
+      nought a = omega arith
+  gap (suc n) from l none =
+      ap (λ k. nat_product_over (factor_in totals set) (range_with_len from k)) (one (length totals) from (omega arith))
+      ∙ ap (λ f. f * product_from totals set (from + 1)) (lacking (holds set from) (none from (omega arith) (omega arith)))
+      ∙ unit (product_from totals set (from + 1))
+      ∙ gap n (from + 1) (omega arith) (λ w a b. none w (omega arith) (omega arith))
+      ∙ ap (product_from totals set) (further from n)
+    where
+      one : (n v : ℕ) → v < n → n - v ≡ suc (n - (v + 1))
+      one n v l = omega arith
+
+      lacking : (b : Bool) → (b ≡ true → ⊥) → cond b (slice_index totals from) 1 ≡ 1
+      lacking true h = absurd (h refl)
+      lacking false h = refl
+
+      unit : (a : ℕ) → 1 * a ≡ a
+      unit a = omega arith
+
+      further : (a b : ℕ) → a + 1 + b ≡ a + suc b
+      further a b = omega arith
+
+  -- the product so far and the rest are the whole, after the next member as before it
+  pub next_member : (m from v : ℕ) → from ≤ v → v < length totals → holds set v ≡ true → ((w : ℕ) → from ≤ w → w < v → holds set w ≡ true → ⊥) → m * product_from totals set from ≡ product_in totals set
+      → m * slice_index totals v * product_from totals set (v + 1) ≡ product_in totals set
+  next_member m from v a l inside none e =
+      ap (λ b. m * cond b (slice_index totals v) 1 * product_from totals set (v + 1)) (sym inside)
+      ∙ one_factor m v l (ap (λ n. m * n) (sym (passed (v - from) (reach v from a))) ∙ e)
+    where
+      reach : (v from : ℕ) → from ≤ v → from + (v - from) ≡ v
+      reach v from h = omega (arith, h)
+
+      passed : (n : ℕ) → from + n ≡ v → product_from totals set from ≡ product_from totals set v
+      passed n is = gap n from (omega (arith, l, is)) (λ w b c. none w b (omega (arith, c, is))) ∙ ap (product_from totals set) is
+
+  -- where no member is left the product so far is the whole
+  pub last_members : (m from : ℕ) → from ≤ length totals → ((w : ℕ) → from ≤ w → w < length totals → holds set w ≡ true → ⊥) → m * product_from totals set from ≡ product_in totals set → m ≡ product_in totals set
+  last_members m from a none e = times_one m ∙ ap (λ n. m * n) (sym (rest ∙ nothing)) ∙ e
+    where
+      reach : (v from : ℕ) → from ≤ v → from + (v - from) ≡ v
+      reach v from h = omega (arith, h)
+
+      times_one : (a : ℕ) → a ≡ a * 1
+      times_one a = omega arith
+
+      rest : product_from totals set from ≡ product_from totals set (length totals)
+      rest = gap (length totals - from) from (omega (arith, a)) (λ w b c. none w b (omega (arith, c, a))) ∙ ap (product_from totals set) (reach (length totals) from a)
+
+      none_left : (n : ℕ) → n - n ≡ 0
+      none_left n = omega arith
+
+      nothing : product_from totals set (length totals) ≡ 1
+      nothing = ap (λ k. nat_product_over (factor_in totals set) (range_with_len (length totals) k)) (none_left (length totals))

@@ -1,5 +1,5 @@
--- A setting as the program has it: what its plans are, and what the decision's gains and masses are there. Only private
--- functions cite it.
+-- A setting as the program has it: what its plans are, and what the decision's gains and masses are there.
+use Rattle.std.specs.Global.{Vec}
 use Rattle.std.specs.Prelude.{ℕ, List, ℤ, take}
 use Rattle.eliminate.specs.Results.{plan_total}
 use Rattle.factor_core.specs.Slots.{WorkspaceView}
@@ -14,7 +14,7 @@ use Rattle.rule_solver.specs.declared.decision_sums.Setting.{Setting}
 use Rattle.rule_solver.specs.declared.joint_goals.JointSums.{JointSums}
 use Rattle.rule_solver.specs.declared.spaces.Workspaces.{Workspaces}
 use Rattle.rule_solver.specs.Rooms.{AreReadyFor, AreReadyForDecision, AreReadyForGoals, IsReadyFor}
-use Rattle.rule_solver.specs.Sums.{AddsGoals, AreRowSums, HasGoals, HasMasses, HasRoomForGoals, IsSetting, KeepsRoom}
+use Rattle.rule_solver.specs.Sums.{AddsGoals, AreRowGains, AreRowSums, HasGoals, HasMasses, HasRoomForGoals, IsSetting, KeepsRoom}
 use Rattle.rule_solver.specs.Together.{IsJoint}
 
 -- what the setting has is right
@@ -124,6 +124,10 @@ AddsFirstGoalsIn s goals before after n = AddsGoalsIn s (take n goals) before af
 -- these are the decision's gains and masses
 abbrev pub AreRowSumsIn : Setting → RowSums → Type 0
 AreRowSumsIn s sums = AreRowSums s.diagram.now.nodes s.base.now s.decision sums
+
+-- these are the decision's gains
+abbrev pub AreRowGainsIn : Setting → Vec ℤ → Type 0
+AreRowGainsIn s gains = AreRowGains s.diagram.now.nodes s.base.now s.decision gains
 
 -- they keep the weight bound, and the P of the scope
 abbrev pub KeepsRoomIn : Setting → RowSums → Type 0

@@ -62,7 +62,7 @@ pub record KeepsRoom
       ≤ scope_product nodes d * greatest_of nodes (goals_of nodes d)
   pub mass_there : (row : ℕ) → row < length masses → slice_index masses row ≤ scope_product nodes d
 
--- ---- on the way; only private functions cite the rest
+-- ---- a setting
 -- a decision and a profile whose other rules are small, within the bound, with the totals of all nodes and the
 -- decision's scope
 pub record IsSetting
@@ -76,6 +76,7 @@ pub record IsSetting
   pub has_totals : HasTotals d.nodes p totals
   pub is_scope : (v : ℕ) → IsIn scope v ↔ Contains (scope_of d.nodes decision) v
 
+-- ---- on the way; only private functions cite the rest
 -- each mass is that of its row in the part of the decision's scope, and within its P
 pub record HasMasses
     (d : DiagramView) (p : List RuleView) (decision : ℕ) (masses : List ℕ) : Type 0 where

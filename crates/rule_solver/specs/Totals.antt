@@ -1,4 +1,4 @@
--- The totals of tables and rules, listed. Only private functions cite it.
+-- The totals of tables and rules, listed.
 use Rattle.std.specs.Prelude.{◌≡◌, ◌↔◌, ℕ, ◌<◌, ◌≤◌, ◌*◌, Bool, IsTrue, List, length, slice_index, if◌then◌else◌}
 use Rattle.std.specs.List.{range_with_len}
 use Rattle.cell_rings.specs.Rings.{small_size}

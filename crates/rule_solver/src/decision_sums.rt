@@ -8,7 +8,7 @@ ghost use Rattle.maid_model.specs.Scopes.{KeepsScopedBounds};
 ghost use Rattle.part_laws.specs.ScopeLaws.{HasSmallRules};
 ghost use Rattle.size_precheck.specs.Decisions.{AreDecisionPlans};
 ghost use Rattle.rule_solver.specs.Rooms.{AreReadyForDecision, HasRoomForDecision};
-ghost use Rattle.rule_solver.specs.Settings.{AddsGoalsIn, AreGoalPlansIn, ArePlansIn, AreReadyForDecisionIn, AreReadyForGoal, AreReadyForGoalsIn, AreReadyForRows, AreRowSumsIn, HasGoalsIn, HasMassesIn, HasRoomForGoalsIn, HoldsSetting, IsGoalIn, IsPlannedForGoal, IsPlannedForRows, IsReadyForGoal, IsReadyForRows, KeepsRoomIn, goals_in, lacking_in_goal, lacking_in_rows, total_in};
+ghost use Rattle.rule_solver.specs.Settings.{AddsGoalsIn, AreGoalPlansIn, ArePlansIn, AreReadyForDecisionIn, AreReadyForGoal, AreReadyForGoalsIn, AreReadyForRows, AreRowGainsIn, AreRowSumsIn, HasGoalsIn, HasMassesIn, HasRoomForGoalsIn, HoldsSetting, IsGoalIn, IsPlannedForGoal, IsPlannedForRows, IsReadyForGoal, IsReadyForRows, KeepsRoomIn, goals_in, lacking_in_goal, lacking_in_rows, total_in};
 ghost use Rattle.rule_solver.specs.Sums.{AreRowSums, AreRowGains, KeepsRoom};
 
 use crate::joint_goals::{add_together, list_goals};
@@ -37,8 +37,11 @@ pub struct RowSums {
 }
 
 /// A decision, the profile in which it is looked at, and what its sums count.
+///
+/// The scope stays from profile to profile, and so do the totals as long as the total of each rule does. So a caller that
+/// asks for a decision's gains in one profile of pure rules after another keeps both.
 #[derive(Drop)]
-pub(crate) struct Setting<'a> {
+pub struct Setting<'a> {
     pub diagram: &'a Diagram,
     pub base: &'a Profile,
     pub decision: usize,
@@ -251,6 +254,28 @@ impl<'a> Setting<'a> {
         Ok(gains)
     }
 
+    /// The gains of which `row_sums_by` tells, without the masses: it runs the plans of the goals alone, in workspaces with
+    /// room for the largest of them, which are left as they were found.
+    ///
+    /// # Errors
+    ///
+    /// Only where memory runs out.
+    pub fn row_gains(
+        &self,
+        alloc: Global,
+        plans: &[Plan],
+        spaces: &mut Workspaces,
+    ) -> Result<Vec<i128>, AllocError>
+        requires setting { HoldsSetting self.now }
+        requires planned { AreGoalPlansIn self.now plans.now }
+        requires ready { AreReadyForGoalsIn self.now spaces.old }
+        ensures gains { IfOk result (AreRowGainsIn self.now) }
+        ensures again { OnOk result (spaces.new ≡ spaces.old) }
+    {
+        plans_sum_scopes();
+        self.gains(alloc, plans, spaces)
+    }
+
     /// The gains and the masses.
     fn row_sums(
         &self,
@@ -334,7 +359,6 @@ pub fn row_gains_by(
     ensures gains { IfOk result (AreRowGains diagram.now.nodes profile.now decision) }
     ensures again { OnOk result (spaces.new ≡ spaces.old) }
 {
-    plans_sum_scopes();
     let totals = list_totals(alloc, diagram, profile)?;
     let setting = Setting {
         diagram,
@@ -343,7 +367,7 @@ pub fn row_gains_by(
         totals: &totals,
         scope: decision_scope(diagram, decision),
     };
-    setting.gains(alloc, &plans.goals, spaces)
+    setting.row_gains(alloc, &plans.goals, spaces)
 }
 
 /// What the states of a decision gain in each row, and the rows' masses, with the profile as base: the sums over the

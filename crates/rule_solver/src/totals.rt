@@ -1,6 +1,6 @@
 //! The totals of tables and rules, and products of them.
 
-ghost use Rattle.std.specs.Prelude.{◌≡◌, ℕ, ◌<◌, ◌≤◌, IfOk, OnOk, if◌then◌else◌, length, slice_index};
+ghost use Rattle.std.specs.Prelude.{◌≡◌, ℕ, ◌<◌, ◌≤◌, IfOk, OnOk, length, slice_index};
 ghost use Rattle.maid_model.specs.Diagrams.{IsDiagram, greatest_number};
 ghost use Rattle.maid_model.specs.Profiles.{IsProfile};
 ghost use Rattle.maid_model.specs.Tables.{weight_total};
@@ -26,8 +26,15 @@ fn total(diagram: &Diagram, profile: &Profile, v: usize) -> u128
     }
 }
 
-/// The totals of all nodes.
-pub(crate) fn list_totals(
+/// The totals of all nodes: what each row of a node's table or rule adds up to, and 1 at a utility.
+///
+/// They stay as long as the total of each rule does, so a caller that goes from one profile of pure rules to the next
+/// lists them once.
+///
+/// # Errors
+///
+/// Only where memory runs out.
+pub fn list_totals(
     alloc: Global,
     diagram: &Diagram,
     profile: &Profile,
@@ -43,14 +50,7 @@ pub(crate) fn list_totals(
     Ok(totals)
 }
 
-/// The total of a member of a set, and 1 at another node.
-fn total_if(held: bool, total: u128) -> u128
-    ensures { result ≡ (if held then total else 1) }
-{
-    if held { total } else { 1 }
-}
-
-/// The product of the listed totals of these nodes.
+/// The product of the listed totals of these nodes. It goes over no node that the set lacks.
 pub(crate) fn product_in(totals: &[u128], set: &NodeSet) -> u128
     requires few { length totals.now ≤ MOST_NODES }
     requires some { (v : ℕ) → v < length totals.now → 0 < slice_index totals.now v }
@@ -58,8 +58,10 @@ pub(crate) fn product_in(totals: &[u128], set: &NodeSet) -> u128
     ensures { result ≡ product_in totals.now set.now }
 {
     let mut product = 1;
-    for (v, total) in totals.iter().enumerate() {
-        product *= total_if(set.holds(v), *total);
+    let mut from = 0;
+    'members: while let Some(v) = set.first_between(from, totals.len()) {
+        product *= totals[v];
+        from = v + 1;
     }
     product
 }

@@ -190,7 +190,11 @@ impl<'a> Stake<'a> {
 
 /// What `expected` tells, by the plans of the utilities' worths, in workspaces with room for each of them. It runs each
 /// plan once. The workspaces are left as they were found.
-pub(crate) fn expected_along(
+///
+/// # Errors
+///
+/// Only where memory runs out.
+pub fn expected_along(
     alloc: Global,
     diagram: &Diagram,
     profile: &Profile,

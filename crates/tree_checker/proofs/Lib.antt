@@ -1,3 +1,4 @@
+pub mod Exchanged
 mod ProductSteps
 mod Listed
 mod Grown

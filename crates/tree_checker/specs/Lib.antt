@@ -1,3 +1,4 @@
+pub mod AgentSums
 pub mod Verdicts
 pub mod Walks
 pub mod Settings

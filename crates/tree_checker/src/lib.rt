@@ -3,6 +3,7 @@
 //! shares nothing with the solver.
 #![tactic(auto)]
 
+mod agent_sums;
 mod bases;
 mod checking;
 mod counting;
@@ -20,6 +21,7 @@ mod strides;
 mod verdicts;
 mod walks;
 
+pub use agent_sums::AgentSum;
 pub use checking::check;
 pub use counting::leaves;
 pub use gains::{gain_over, mass_of, utilities_of};

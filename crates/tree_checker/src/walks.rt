@@ -1,13 +1,14 @@
 //! Sums over worlds by a walk down the nodes, parents first: products and sums are carried from node to node.
 
-ghost use Rattle.std.specs.Prelude.{◌≡◌, ◌*◌, ◌<◌, ◌≤◌, drop, IfOk, length};
+ghost use Rattle.std.specs.Prelude.{◌≡◌, ◌*◌, ◌<◌, ◌≤◌, drop, IfOk, length, pos, replicate};
 ghost use Rattle.maid_model.specs.Diagrams.{IsDiagram};
 ghost use Rattle.maid_model.specs.Nodes.{counts_of};
 ghost use Rattle.maid_model.specs.Private.{MarksUtilities};
 ghost use Rattle.maid_model.specs.Profiles.{IsProfile};
-ghost use Rattle.maid_model.specs.Worlds.{IsWorld};
+ghost use Rattle.maid_model.specs.Worlds.{IsWorld, first_world};
 ghost use Rattle.tree_checker.specs.Settings.{HoldsWalkSetting, IsCellCount, HasEnding, IsDownwardIn, GainsDown, HasRoomDown, MassesDown, walked};
-ghost use Rattle.tree_checker.specs.Walks.{AreUtilities, IsDownward, HoldsCells, HasRoomWithout};
+ghost use Rattle.tree_checker.specs.Walks.{AreUtilities, IsDownward, HoldsCells, HoldsFactors, HasRoomWithout, ListsCells};
+ghost use Rattle.diagram_graph.specs.Cycles.{IsNodeOrder, lists_in};
 ghost use Rattle.diagram_graph.specs.Room.{cells_at};
 
 use crate::endings::{set_state, value};
@@ -108,6 +109,48 @@ fn weighed(diagram: &Diagram, order: &[usize]) -> usize
     end
 }
 
+/// Adds to the cells of the decision that is left out, each of which has nothing yet, the gains and masses of all worlds
+/// of the diagram, with the nodes in this order and these factors of theirs. It goes down the nodes once for each choice
+/// of states of those before, but for what has no weight, and takes no memory.
+pub(crate) fn add_worlds(
+    diagram: &Diagram,
+    profile: &Profile,
+    marks: &NodeSet,
+    left_out: usize,
+    nodes: &[usize],
+    factors: &[Vec<u128>],
+    world: &mut World,
+    gains: &mut [i128],
+    masses: &mut [u128],
+)
+    requires profile { IsProfile diagram.now.nodes profile.now }
+    requires marks { MarksUtilities diagram.now.nodes marks.now }
+    requires decision { left_out ≤ length diagram.now.nodes }
+    requires fits { HasRoomWithout diagram.now profile.now left_out }
+    requires order { IsNodeOrder diagram.now.nodes nodes.now }
+    requires factors { HoldsFactors diagram.now.nodes profile.now left_out (lists_in factors.now) }
+    requires world { world.old ≡ first_world (length diagram.now.nodes) }
+    requires known { IsWorld (counts_of diagram.now.nodes) world.old }
+    requires gains { gains.old ≡ replicate (cells_at diagram.now.nodes left_out) (pos 0) }
+    requires masses { masses.old ≡ replicate (cells_at diagram.now.nodes left_out) 0 }
+    ensures again { world.new ≡ world.old }
+    ensures cells { ListsCells diagram.now profile.now left_out marks.now gains.new masses.new }
+{
+    let _count = diagram.count();
+    let (order, tail) = nodes.split_at(weighed(diagram, nodes));
+    let (front, last) = split_last(diagram, marks, left_out, order, tail);
+    let setting = Setting {
+        diagram,
+        profile,
+        factors,
+        marks,
+        left_out,
+        tail,
+        last,
+    };
+    walk(&setting, front, world, 1, 0, gains, masses);
+}
+
 /// The gains and masses of the cells of the decision that is left out, over all worlds of the diagram; where none is
 /// left out, the one cell has all worlds. It lists the factors of each node, in as much memory as the tables and the
 /// rules take, and goes down the nodes once for each choice of states of those before, but for what has no weight.
@@ -130,17 +173,16 @@ pub(crate) fn cells_over(
     let mut world = World::first(alloc, diagram)?;
     let factors = all_factors(alloc, diagram, profile, left_out)?;
     let nodes = topological(alloc, diagram)?;
-    let (order, tail) = nodes.split_at(weighed(diagram, &nodes));
-    let (front, last) = split_last(diagram, marks, left_out, order, tail);
-    let setting = Setting {
+    add_worlds(
         diagram,
         profile,
-        factors: &factors,
         marks,
         left_out,
-        tail,
-        last,
-    };
-    walk(&setting, front, &mut world, 1, 0, &mut gains, &mut masses);
+        &nodes,
+        &factors,
+        &mut world,
+        &mut gains,
+        &mut masses,
+    );
     Ok(CellSums { gains, masses })
 }

@@ -32,7 +32,7 @@ pub(crate) struct Scope {
 }
 
 /// The scope of a decision: the nodes from which a path of nought or more arcs leads to it, or to a utility of its agent
-/// that descends from it. It takes no memory, and goes over all arcs a few times.
+/// that descends from it. It takes no memory, and looks at each node a few times.
 pub fn decision_scope(diagram: &Diagram, decision: usize) -> NodeSet
     requires { IsDecision diagram.now.nodes decision }
     ensures { (v : ℕ) → IsIn result v ↔ Contains (scope_of diagram.now.nodes decision) v }
@@ -56,7 +56,7 @@ fn scope_of_goals(diagram: &Diagram, decision: usize, goals: NodeSet) -> NodeSet
 }
 
 /// The scope of an agent: the nodes from which a path of nought or more arcs leads to one of its utilities. It takes no
-/// memory, and goes over all arcs a few times.
+/// memory, and looks at each node a few times.
 pub fn agent_scope(diagram: &Diagram, agent: usize) -> NodeSet
     ensures { (v : ℕ) → IsIn result v ↔ Contains (scope_for diagram.now.nodes agent) v }
 {
@@ -64,7 +64,7 @@ pub fn agent_scope(diagram: &Diagram, agent: usize) -> NodeSet
 }
 
 /// The scope of an agent where a node's state is given: the nodes from which a path of nought or more arcs leads to the
-/// node or to one of the agent's utilities. It takes no memory, and goes over all arcs a few times.
+/// node or to one of the agent's utilities. It takes no memory, and looks at each node a few times.
 pub fn scope_given(diagram: &Diagram, node: usize, agent: usize) -> NodeSet
     requires { node < length diagram.now.nodes }
     ensures { (v : ℕ) → IsIn result v ↔ Contains (scope_given diagram.now.nodes node agent) v }

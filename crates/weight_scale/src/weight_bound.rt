@@ -61,7 +61,7 @@ fn place_of_agents(diagram: &Diagram) -> BoundPlace
 /// order, then for that of each agent; the first that fails counts. Its place is the first node of
 /// the scope up to which the product of the chance totals, and in a decision's scope of the
 /// decisions' counts of states too, passes 2^126 - 1, or else the utilities. It takes no memory; for
-/// each decision and each agent it goes over all arcs a few times, and once over the cells of the
+/// each decision and each agent it looks at each node a few times, and once over the cells of the
 /// scope's utilities and the first row of its chance tables.
 pub fn bound(diagram: &Diagram) -> BoundPlace
     ensures place { IsBoundPlace diagram.now result }

@@ -1,14 +1,10 @@
-use Rattle.std.proofs.Common.{ℕ}
-use Rattle.node_sets.specs.Sets.{IsIn, room}
-use Rattle.node_sets.specs.Paths.{LeadsFrom}
-use Rattle.node_sets.specs.Sweeps.{Step}
+use Rattle.node_sets.specs.Sets.{room}
+use Rattle.node_sets.specs.Steps.{Step}
+use Rattle.node_sets.proofs.Following.{IsFollowed}
 use Rattle.node_sets.proofs.paths.follow.Given as goal
 
-abbrev pub invariant-sweeps : goal.invariant-sweeps
-invariant-sweeps g l = record {
-  kept : (v : ℕ) → IsIn l.initial.set v → IsIn l.set v;
-  sound : (v : ℕ) → IsIn l.set v → LeadsFrom (Step (g.G.Graph.parents_of l.graph) l.way) (IsIn l.initial.set) v;
-}
+abbrev pub invariant-waves : goal.invariant-waves
+invariant-waves g l = IsFollowed (Step (g.G.Graph.parents_of l.graph) l.way) l.fn.set l.reached l.followed
 
-abbrev pub decreases-sweeps : goal.decreases-sweeps
-decreases-sweeps g l = room l.set
+abbrev pub decreases-waves : goal.decreases-waves
+decreases-waves g l = room l.followed

@@ -17,6 +17,7 @@ returns-clause-run c =
     let small : KeepsPlanLimits c.in_ok-plans.plans.size = c.keeps_plan_limits.ensures.0 c.if-not-keeps_plan_limits.false in
     record {
       plans = subst (λ order. ArePlans nodes order c.in_ok-plans.plans.decisions.items) c.requires c.in_ok-plans.ensures.plans;
+      worths = c.in_ok-plans.ensures.worths;
       room = c.counted_plans_have_room.ensures.run nodes c.args.decisions.now c.in_ok-plans.plans.size (subst (ListsDecisions nodes) (sym c.requires) (lists_decisions nodes)) c.in_ok-plans.ensures.size;
       limit = small.cells;
     }

@@ -7,7 +7,8 @@ use Rattle.maid_model.specs.Views.{AnswerView}
 use Rattle.maid_laws.specs.Optimum.{IsPure}
 use Rattle.reach_laws.specs.Updates.{IsPass, Over}
 use Rattle.reach_laws.proofs.Steps.{step_cases}
-use Rattle.policy_update.specs.Steps.{AreKept, IsProfileOf}
+use Rattle.policy_update.specs.Kept.{AreKept}
+use Rattle.policy_update.specs.Steps.{IsProfileOf}
 use Rattle.policy_update.proofs.Owners.{decision_at}
 use Rattle.policy_update.proofs.Plans.{plan_pure}
 use Rattle.policy_update.proofs.Rising.{pass_more, rises_more, rises_tell}
@@ -18,7 +19,7 @@ pub loop-place-init : goal.loop-place-init
 loop-place-init c = (c.requires.plan, Over, (λ agent owns. refl), refl)
 
 pub improve-requires-clause-kept : goal.improve-requires-clause-kept
-improve-requires-clause-kept c = subst (AreKept c.args.diagram.now.nodes c.args.plans.now) (sym c.loop-place.invariant.3) c.requires.kept
+improve-requires-clause-kept c = subst (AreKept c.args.diagram.now.nodes c.args.kept.now) (sym c.loop-place.invariant.3) c.requires.kept
 
 -- one step more
 pub loop-place-preserved : goal.loop-place-preserved

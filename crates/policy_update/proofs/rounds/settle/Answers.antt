@@ -1,13 +1,14 @@
 use Rattle.std.proofs.Common.{◌≢◌, ◌∙◌, refl, sym, subst, add-one}
 use Rattle.reach_laws.specs.Updates.{IsReachedAfter, Raised, Start}
-use Rattle.policy_update.specs.Steps.{AreKept, TellsChange}
+use Rattle.policy_update.specs.Kept.{AreKept}
+use Rattle.policy_update.specs.Steps.{TellsChange}
 use Rattle.policy_update.proofs.rounds.settle.Goals as goal
 
 pub loop-raised-init : goal.loop-raised-init
 loop-raised-init c = (c.requires.plan, subst (IsReachedAfter c.args.diagram.now.nodes 0) (sym c.requires.start) Start, refl)
 
 pub go_round-requires-clause-kept : goal.go_round-requires-clause-kept
-go_round-requires-clause-kept c = subst (AreKept c.args.diagram.now.nodes c.args.plans.now) (sym c.loop-raised.invariant.2) c.requires.kept
+go_round-requires-clause-kept c = subst (AreKept c.args.diagram.now.nodes c.args.kept.now) (sym c.loop-raised.invariant.2) c.requires.kept
 
 -- the round raised
 pub loop-raised-preserved : goal.loop-raised-preserved

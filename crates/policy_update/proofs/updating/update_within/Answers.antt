@@ -7,6 +7,7 @@ use Rattle.maid_model.specs.Nodes.{decisions_of}
 use Rattle.rule_solver.specs.Masses.{HasGains}
 use Rattle.rule_solver.specs.Rooms.{AreReady}
 use Rattle.size_precheck.specs.Decisions.{ArePlans}
+use Rattle.size_precheck.specs.Sizes.{ArePlansOfWorths}
 use Rattle.reach_laws.specs.Updates.{IsReachedAfter, IsUpdated}
 use Rattle.policy_update.specs.Steps.{EndsAt, IsSettled}
 use Rattle.policy_update.proofs.Owners.{decision_at, owns_like}
@@ -28,29 +29,41 @@ pub settle-requires-clause-start : goal.settle-requires-clause-start
 settle-requires-clause-start c =
     c.in_ok-profile.ensures.rules ∙ ap (pure_profile c.args.diagram.now.nodes) (c.deref.ensures.value ∙ c.in_ok-answers.ensures) ∙ first_start c.args.diagram.now.nodes c.count-count.ensures.diagram.graph
 
+pub new-requires-clause-decisions : goal.new-requires-clause-decisions
+new-requires-clause-decisions c = c.requires.decisions
+
+pub new-requires-clause-pure : goal.new-requires-clause-pure
+new-requires-clause-pure c =
+    let nodes = c.args.diagram.now.nodes in
+    let plan = first_plan nodes c.count-count.ensures.diagram.graph c.deref.result.now c.in_ok-profile.profile (c.deref.ensures.value ∙ c.in_ok-answers.ensures) c.in_ok-profile.ensures.rules in
+    plan_pure nodes c.pure_profiles_listed.ensures.choices c.deref.result.now c.in_ok-profile.profile plan
+
+pub new-requires-clause-planned : goal.new-requires-clause-planned
+new-requires-clause-planned c = subst (ArePlans c.args.diagram.now.nodes (decisions_of c.args.diagram.now.nodes)) (sym c.deref-2.ensures.value) c.requires.run.plans
+
 pub reserve-requires : goal.reserve-requires
 reserve-requires c = c.requires.run.limit
 
 pub settle-requires-clause-kept : goal.settle-requires-clause-kept
 settle-requires-clause-kept c = record {
-  planned = subst (ArePlans c.args.diagram.now.nodes (decisions_of c.args.diagram.now.nodes)) (sym c.deref-2.ensures.value) c.requires.run.plans;
+  is_kept = c.in_ok-kept.ensures;
   cells = c.args.run.now.size.cells;
   ready = c.in_ok-spaces.ensures;
   room = c.requires.run.room;
 }
 
-pub expected_by-requires-clause-ready : goal.expected_by-requires-clause-ready
-expected_by-requires-clause-ready c = (
+pub expected_along-requires-clause-ready : goal.expected_along-requires-clause-ready
+expected_along-requires-clause-ready c = (
   c.args.run.now.size.cells,
   subst (AreReady c.args.run.now.size.cells) (sym c.in_ok-settled.ensures.again) c.in_ok-spaces.ensures,
   c.requires.run.room.worths,
 )
 
-pub expected_by-requires-clause-profile : goal.expected_by-requires-clause-profile
-expected_by-requires-clause-profile c = (plan_pure c.args.diagram.now.nodes c.pure_profiles_listed.ensures.choices c.settle.new.answers c.settle.new.profile c.in_ok-settled.ensures.plan).profile
+pub expected_along-requires-clause-profile : goal.expected_along-requires-clause-profile
+expected_along-requires-clause-profile c = (plan_pure c.args.diagram.now.nodes c.pure_profiles_listed.ensures.choices c.settle.new.answers c.settle.new.profile c.in_ok-settled.ensures.plan).profile
 
-pub expected_by-requires-clause-pure : goal.expected_by-requires-clause-pure
-expected_by-requires-clause-pure c = (plan_pure c.args.diagram.now.nodes c.pure_profiles_listed.ensures.choices c.settle.new.answers c.settle.new.profile c.in_ok-settled.ensures.plan).total
+pub expected_along-requires-clause-pure : goal.expected_along-requires-clause-pure
+expected_along-requires-clause-pure c = (plan_pure c.args.diagram.now.nodes c.pure_profiles_listed.ensures.choices c.settle.new.answers c.settle.new.profile c.in_ok-settled.ensures.plan).total
 
 pub returns-in-Some-clause-rows : goal.returns-in-Some-clause-rows
 returns-in-Some-clause-rows c p reached =
@@ -111,8 +124,11 @@ settle-requires-clause-bound c = c.requires.bound
 pub settle-requires-clause-owner : goal.settle-requires-clause-owner
 settle-requires-clause-owner c = c.requires.owner
 
-pub expected_by-requires-clause-bound : goal.expected_by-requires-clause-bound
-expected_by-requires-clause-bound c = c.requires.bound
+pub expected_along-requires-clause-planned : goal.expected_along-requires-clause-planned
+expected_along-requires-clause-planned c = subst (ArePlansOfWorths c.args.diagram.now.nodes) (sym c.deref-3.ensures.value) c.requires.run.worths
+
+pub expected_along-requires-clause-bound : goal.expected_along-requires-clause-bound
+expected_along-requires-clause-bound c = c.requires.bound
 
 pub owner-requires-clause-decisions : goal.owner-requires-clause-decisions
 owner-requires-clause-decisions c = c.requires.decisions
@@ -128,6 +144,12 @@ returns-in_err-profile-clause-rows c = hands_on update_fault (rounds_pass c.args
 
 pub returns-in_err-profile-clause-ok : goal.returns-in_err-profile-clause-ok
 returns-in_err-profile-clause-ok c = IfOk-from_err _ _ c.from_residual-in_err-profile.ensures.0
+
+pub returns-in_err-kept-clause-rows : goal.returns-in_err-kept-clause-rows
+returns-in_err-kept-clause-rows c = hands_on update_fault (rounds_pass c.args.diagram.now c.args.rounds) _ NoMemory c.from_residual-in_err-kept.ensures tt
+
+pub returns-in_err-kept-clause-ok : goal.returns-in_err-kept-clause-ok
+returns-in_err-kept-clause-ok c = IfOk-from_err _ _ c.from_residual-in_err-kept.ensures.0
 
 pub returns-in_err-spaces-clause-rows : goal.returns-in_err-spaces-clause-rows
 returns-in_err-spaces-clause-rows c = hands_on update_fault (rounds_pass c.args.diagram.now c.args.rounds) _ NoMemory c.from_residual-in_err-spaces.ensures tt

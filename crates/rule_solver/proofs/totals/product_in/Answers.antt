@@ -1,22 +1,24 @@
-use Rattle.std.proofs.Common.{◌≡◌, ◌∙◌, ◌+◌, ◌*◌, cond, slice_index, sym, ap, subst, arith}
-use Rattle.rule_solver.specs.Totals.{product_in}
-use Rattle.rule_solver.proofs.ProductLemmas.{factor_in, product_from, one_factor, so_far}
+-- With the next member's total.
+use Rattle.std.proofs.Common.{◌+◌, ◌*◌, slice_index, arith}
+use Rattle.rule_solver.proofs.ProductLemmas.{last_members, next_member, so_far}
 use Rattle.rule_solver.proofs.totals.product_in.Goals as goal
-use Rattle.rule_solver.proofs.totals.product_in.Goals.{After-total_if-product}
 
--- with the next factor
-next : (c : After-total_if-product) → c.loop-v.product * c.total_if-product.result * product_from c.args.totals.now c.args.set.now (c.loop-v.v + 1) ≡ product_in c.args.totals.now c.args.set.now
-next c =
-    let totals = c.args.totals.now in
-    let set = c.args.set.now in
-    let factor : factor_in totals set c.loop-v.v ≡ c.total_if-product.result = sym (c.total_if-product.ensures ∙ ap (λ b. cond b (slice_index totals c.loop-v.v) 1) c.holds.ensures) in
-    subst (λ f. c.loop-v.product * f * product_from totals set (c.loop-v.v + 1) ≡ product_in totals set) factor (one_factor totals set c.loop-v.product c.loop-v.v c.loop-v-test.true c.loop-v.invariant)
+pub first_between-requires : goal.first_between-requires
+first_between-requires c = omega (arith, c.members.invariant.1, c.requires.few)
 
 pub overflow_mul-product : goal.overflow_mul-product
 overflow_mul-product c =
-    let small = so_far c.args.totals.now c.args.set.now c.requires.some (c.loop-v.product * c.total_if-product.result) (c.loop-v.v + 1) (let l = c.loop-v-test.true in omega arith) (next c) in
-    let fits = c.requires.fits in
-    omega (arith, small, fits)
+    let found = c.in-Some.ensures.0 in
+    let next = next_member c.args.totals.now c.args.set.now c.members.product c.members.from c.in-Some.v found.not_before c.in-Some.ensures.1 found.inside found.first c.members.invariant.0 in
+    let small = so_far c.args.totals.now c.args.set.now c.requires.some (c.members.product * slice_index c.args.totals.now c.in-Some.v) (c.in-Some.v + 1) (omega (arith, c.in-Some.ensures.1)) next in
+    omega (arith, small, c.requires.fits)
 
-pub loop-v-preserved : goal.loop-v-preserved
-loop-v-preserved c = next c
+pub members-preserved : goal.members-preserved
+members-preserved c =
+    let found = c.in-Some.ensures.0 in (
+      next_member c.args.totals.now c.args.set.now c.members.product c.members.from c.in-Some.v found.not_before c.in-Some.ensures.1 found.inside found.first c.members.invariant.0,
+      omega (arith, c.in-Some.ensures.1),
+    )
+
+pub returns : goal.returns
+returns c = last_members c.args.totals.now c.args.set.now c.members.product c.members.from c.members.invariant.1 c.in_default.ensures c.members.invariant.0

@@ -1,0 +1,96 @@
+//! The sets that a diagram keeps of its nodes: what searches along arcs ask again and again.
+
+ghost use Rattle.std.specs.Prelude.{◌≡◌, ℕ, ◌<◌, ◌≤◌, ◌↔◌, length, IsTrue};
+ghost use Rattle.node_sets.specs.declared.sets.TheConstants.{MOST_NODES};
+ghost use Rattle.node_sets.specs.Arcs.{HasParent, HasChild};
+ghost use Rattle.node_sets.specs.Sets.{IsIn};
+ghost use Rattle.maid_model.specs.Graph.{Arc};
+ghost use Rattle.maid_model.specs.Nodes.{IsUtility};
+ghost use Rattle.maid_model.specs.Relevance.{IsLive};
+ghost use Rattle.maid_model.specs.Private.{HasLiveStates, IsIndexOf};
+
+use crate::diagrams::{Kind, Node};
+use node_sets::{ArcSets, NodeSet};
+
+/// The sets of a list of nodes.
+#[derive(Clone, Copy, Debug)]
+pub(crate) struct NodeIndex {
+    pub(crate) arcs: ArcSets,
+    /// The nodes that can be on walks.
+    pub(crate) live: NodeSet,
+    pub(crate) utilities: NodeSet,
+}
+
+impl NodeIndex {
+    /// The sets of these nodes. It goes over all arcs once.
+    pub(crate) fn of(nodes: &[Node]) -> NodeIndex
+        requires few { length nodes.now ≤ MOST_NODES }
+        requires known { (u v : ℕ) → Arc nodes.now u v → u < length nodes.now }
+        ensures { IsIndexOf nodes.now result }
+    {
+        NodeIndex {
+            arcs: arcs_of(nodes),
+            live: live_nodes_of(nodes),
+            utilities: all_utilities_of(nodes),
+        }
+    }
+}
+
+/// The arcs between the nodes.
+fn arcs_of(nodes: &[Node]) -> ArcSets
+    requires few { length nodes.now ≤ MOST_NODES }
+    requires known { (u v : ℕ) → Arc nodes.now u v → u < length nodes.now }
+    ensures parents { (u v : ℕ) → HasParent result v u ↔ Arc nodes.now u v }
+    ensures children { (u v : ℕ) → HasChild result u v ↔ Arc nodes.now u v }
+{
+    let mut arcs = ArcSets::none();
+    for v in 0..nodes.len() {
+        let node = &nodes[v];
+        arcs.add_arcs_into(v, node.parents.as_slice());
+    }
+    arcs
+}
+
+fn is_utility(node: &Node) -> bool
+    ensures { IsTrue result ↔ (node.now.kind ≡ Kind.Utility) }
+{
+    match node.kind {
+        Kind::Utility => true,
+        Kind::Chance | Kind::Decision => false,
+    }
+}
+
+/// Whether walks can go through a node like this.
+fn has_live_states(node: &Node) -> bool
+    ensures { IsTrue result ↔ HasLiveStates node.now }
+{
+    is_utility(node) || node.states > 1
+}
+
+/// The nodes that can be on walks.
+fn live_nodes_of(nodes: &[Node]) -> NodeSet
+    requires { length nodes.now ≤ MOST_NODES }
+    ensures { (v : ℕ) → IsIn result v ↔ IsLive nodes.now v }
+{
+    let mut live = NodeSet::empty();
+    for v in 0..nodes.len() {
+        if has_live_states(&nodes[v]) {
+            live.insert(v);
+        }
+    }
+    live
+}
+
+/// The utilities.
+fn all_utilities_of(nodes: &[Node]) -> NodeSet
+    requires { length nodes.now ≤ MOST_NODES }
+    ensures { (v : ℕ) → IsIn result v ↔ IsUtility nodes.now v }
+{
+    let mut utilities = NodeSet::empty();
+    for v in 0..nodes.len() {
+        if is_utility(&nodes[v]) {
+            utilities.insert(v);
+        }
+    }
+    utilities
+}
