@@ -194,4 +194,5 @@ def main():
         sys.exit(run_gate(room))
 
 
-main()
+if __name__ == "__main__":
+    main()

@@ -22,7 +22,7 @@ HasLiveStates node = (node.kind ≡ Utility) ⊎ (1 < node.states)
 
 -- the sets of these nodes: each node's parents and children, the live nodes and the utilities
 pub record IsIndexOf (nodes : List NodeView) (index : NodeIndex) : Type 0 where
-  pub parents : (u v : ℕ) → HasParent index.arcs v u ↔ Arc nodes u v
+  pub parents : (u v : ℕ) → HasParent index.arcs u v ↔ Arc nodes u v
   pub children : (u v : ℕ) → HasChild index.arcs u v ↔ Arc nodes u v
   pub live : (v : ℕ) → IsIn index.live v ↔ IsLive nodes v
   pub utilities : (v : ℕ) → IsIn index.utilities v ↔ IsUtility nodes v

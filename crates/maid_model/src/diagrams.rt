@@ -169,7 +169,7 @@ impl Diagram {
 
     /// The arcs, as each node's set of parents and set of children.
     pub fn arcs(&self) -> &ArcSets
-        ensures parents { (u v : ℕ) → HasParent result.now v u ↔ Arc self.now.nodes u v }
+        ensures parents { (u v : ℕ) → HasParent result.now u v ↔ Arc self.now.nodes u v }
         ensures children { (u v : ℕ) → HasChild result.now u v ↔ Arc self.now.nodes u v }
         ensures diagram { IsDiagram self.now }
     {

@@ -40,7 +40,7 @@ impl NodeIndex {
 fn arcs_of(nodes: &[Node]) -> ArcSets
     requires few { length nodes.now ≤ MOST_NODES }
     requires known { (u v : ℕ) → Arc nodes.now u v → u < length nodes.now }
-    ensures parents { (u v : ℕ) → HasParent result v u ↔ Arc nodes.now u v }
+    ensures parents { (u v : ℕ) → HasParent result u v ↔ Arc nodes.now u v }
     ensures children { (u v : ℕ) → HasChild result u v ↔ Arc nodes.now u v }
 {
     let mut arcs = ArcSets::none();

@@ -82,6 +82,13 @@ impl Profile {
         Ok(Profile { rules })
     }
 
+    /// The rules, in text order of their decisions.
+    pub fn rules(&self) -> &[Rule]
+        ensures { result.now ≡ self.now }
+    {
+        &self.rules
+    }
+
     /// The rule of the decision.
     pub fn rule(&self, decision: usize) -> &Rule
         requires { HasRule self.now decision }

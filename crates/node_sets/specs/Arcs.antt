@@ -5,7 +5,7 @@ use Rattle.node_sets.specs.Sets.{IsIn, no_nodes}
 
 -- u is one of the parents of v in these sets
 abbrev pub HasParent : ArcSets → ℕ → ℕ → Type 0
-HasParent arcs v u = IsIn (slice_index_or arcs.parents v no_nodes) u
+HasParent arcs u v = IsIn (slice_index_or arcs.parents v no_nodes) u
 
 -- v is one of the children of u in these sets
 abbrev pub HasChild : ArcSets → ℕ → ℕ → Type 0

@@ -19,7 +19,7 @@ pub struct ArcSets {
 impl ArcSets {
     /// No arcs.
     pub fn none() -> ArcSets
-        ensures parents { (u v : ℕ) → HasParent result v u → ⊥ }
+        ensures parents { (u v : ℕ) → HasParent result u v → ⊥ }
         ensures children { (u v : ℕ) → HasChild result u v → ⊥ }
     {
         let none = [NodeSet::empty(); MOST_NODES];
@@ -33,8 +33,8 @@ impl ArcSets {
     pub fn add_arcs_into(&mut self, v: usize, list: &[usize])
         requires node { v < MOST_NODES }
         requires list { (u : ℕ) → Contains list.now u → u < MOST_NODES }
-        ensures parents { (u w : ℕ) → HasParent self.new w u
-            ↔ (HasParent self.old w u ⊎ (Contains list.now u × (w ≡ v))) }
+        ensures parents { (u w : ℕ) → HasParent self.new u w
+            ↔ (HasParent self.old u w ⊎ (Contains list.now u × (w ≡ v))) }
         ensures children { (u w : ℕ) → HasChild self.new u w
             ↔ (HasChild self.old u w ⊎ (Contains list.now u × (w ≡ v))) }
     {
@@ -51,7 +51,7 @@ impl ArcSets {
     /// The node's parents.
     pub fn parents(&self, v: usize) -> NodeSet
         requires { v < MOST_NODES }
-        ensures { (u : ℕ) → IsIn result u ↔ HasParent self.now v u }
+        ensures { (u : ℕ) → IsIn result u ↔ HasParent self.now u v }
     {
         self.parents[v]
     }

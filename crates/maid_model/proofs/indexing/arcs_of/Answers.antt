@@ -26,12 +26,12 @@ loop-v-preserved c =
     let same : c.as_slice.result.now ≡ parents_of nodes c.loop-v.v =
     c.as_slice.ensures ∙ ap (λ (n : NodeView). n.parents) (c.node.view_is ∙ node_read nodes nodes c.loop-v.v c.index-nodes-v.result refl c.loop-v-test.true c.index-nodes-v.is) in
     record {
-      parents = arcs_more nodes c.loop-v.v c.as_slice.result.now (λ u v. HasParent c.loop-v.arcs v u) (λ u v. HasParent c.add_arcs_into.new.self v u) same c.add_arcs_into.ensures.parents c.loop-v.invariant.parents;
+      parents = arcs_more nodes c.loop-v.v c.as_slice.result.now (HasParent c.loop-v.arcs) (HasParent c.add_arcs_into.new.self) same c.add_arcs_into.ensures.parents c.loop-v.invariant.parents;
       children = arcs_more nodes c.loop-v.v c.as_slice.result.now (HasChild c.loop-v.arcs) (HasChild c.add_arcs_into.new.self) same c.add_arcs_into.ensures.children c.loop-v.invariant.children;
     }
 
 pub returns : goal.returns
 returns c = record {
-  parents = arcs_all c.args.nodes.now c.loop-v.v (λ u v. HasParent c.loop-v.arcs v u) c.loop-v-test.false c.loop-v.invariant.parents;
+  parents = arcs_all c.args.nodes.now c.loop-v.v (HasParent c.loop-v.arcs) c.loop-v-test.false c.loop-v.invariant.parents;
   children = arcs_all c.args.nodes.now c.loop-v.v (HasChild c.loop-v.arcs) c.loop-v-test.false c.loop-v.invariant.children;
 }

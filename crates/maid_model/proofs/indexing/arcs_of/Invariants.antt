@@ -4,6 +4,6 @@ use Rattle.maid_model.proofs.indexing.arcs_of.Given as goal
 
 abbrev pub invariant-loop-v : goal.invariant-loop-v
 invariant-loop-v l = record {
-  parents : ArcsBelow l.nodes l.v (λ u v. HasParent l.arcs v u);
+  parents : ArcsBelow l.nodes l.v (HasParent l.arcs);
   children : ArcsBelow l.nodes l.v (HasChild l.arcs);
 }
