@@ -1,5 +1,5 @@
 -- Choices of one decision after another, and that in the end they are an optimum.
-use Rattle.std.proofs.Common.{◌≡◌, ◌∙◌, ℕ, zero, suc, ◌+◌, ◌^◌, ◌<◌, ◌≤◌, List, [], ◌∷◌, ◌++◌, All, Contains, IfSome, length, map, take, get_or, slice_index, refl, sym, ap, subst, arith, ℤ, pos, ◌≤ℤ◌, length-append}
+use Rattle.std.proofs.Common.{◌≡◌, ◌∙◌, ℕ, zero, suc, ◌+◌, ◌^◌, ◌<◌, List, [], ◌∷◌, ◌++◌, All, Contains, IfSome, length, map, take, get_or, slice_index, refl, sym, ap, subst, arith, ℤ, pos, ◌≤ℤ◌, length-append}
 use Rattle.std.proofs.lemmas.List.{get_or_append_left, take_more}
 use Rattle.std.proofs.lemmas.List.Elements.{All-push}
 use Rattle.std.proofs.Math.Decide.{ℕ_discrete}

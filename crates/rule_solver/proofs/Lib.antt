@@ -19,6 +19,7 @@ mod MassCells
 mod OwnOrder
 mod Members
 mod Missing
+mod NextRules
 mod Orders
 mod PlanLemmas
 mod PlanRuns

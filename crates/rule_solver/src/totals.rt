@@ -3,33 +3,17 @@
 ghost use Rattle.std.specs.Prelude.{◌≡◌, ℕ, ◌<◌, ◌≤◌, IfOk, OnOk, length, slice_index};
 ghost use Rattle.maid_model.specs.Diagrams.{IsDiagram, greatest_number};
 ghost use Rattle.maid_model.specs.Profiles.{IsProfile};
-ghost use Rattle.maid_model.specs.Tables.{weight_total};
 ghost use Rattle.node_sets.specs.declared.sets.TheConstants.{MOST_NODES};
 ghost use Rattle.rule_solver.specs.Totals.{HasTotals, product_in};
 
-use maid_model::{Diagram, Kind, Profile, profile_has_rules};
+use maid_model::{Diagram, Kind, Profile};
 use node_sets::NodeSet;
 use std::alloc::{AllocError, Global};
-
-/// What each row of the node's table or rule adds up to; 1 at a utility.
-fn total(diagram: &Diagram, profile: &Profile, v: usize) -> u128
-    requires node { v < length diagram.now.nodes }
-    requires profile { IsProfile diagram.now.nodes profile.now }
-    ensures { result ≡ weight_total diagram.now.nodes profile.now v }
-{
-    // A profile has a rule for each decision.
-    profile_has_rules();
-    match diagram.kind(v) {
-        Kind::Chance => diagram.weight_total(v),
-        Kind::Decision => profile.rule(v).total,
-        Kind::Utility => 1,
-    }
-}
 
 /// The totals of all nodes: what each row of a node's table or rule adds up to, and 1 at a utility.
 ///
 /// They stay as long as the total of each rule does, so a caller that goes from one profile of pure rules to the next
-/// lists them once.
+/// lists them once. It looks at each node and at each rule once.
 ///
 /// # Errors
 ///
@@ -43,9 +27,21 @@ pub fn list_totals(
     ensures totals { IfOk result (λ totals. HasTotals diagram.now.nodes profile.now totals.items) }
     ensures diagram { OnOk result (IsDiagram diagram.now) }
 {
+    let rules = profile.rules();
     let mut totals = Vec::with_capacity(alloc, diagram.count())?;
+    // Rules stand in text order of their decisions, so the next decision's is at the place behind the last one's.
+    let mut place = 0;
     for v in 0..diagram.count() {
-        totals.push(total(diagram, profile, v))?;
+        let total = match diagram.kind(v) {
+            Kind::Chance => diagram.weight_total(v),
+            Kind::Decision => {
+                let rule = &rules[place];
+                place += 1;
+                rule.total
+            }
+            Kind::Utility => 1,
+        };
+        totals.push(total)?;
     }
     Ok(totals)
 }
