@@ -1,6 +1,6 @@
 //! A sum that goes from one list of choices to the next.
 
-ghost use Rattle.std.specs.Prelude.{◌≡◌, ◌<◌, ◌++◌, All, Contains, IfOk, IsTrue, OnOk, length};
+ghost use Rattle.std.specs.Prelude.{◌≡◌, ◌↔◌, ◌<◌, ◌++◌, All, Contains, IfOk, IsTrue, OnOk, length};
 ghost use Rattle.maid_model.specs.Nodes.{decisions_of, states_of};
 ghost use Rattle.maid_model.specs.Parts.{place_in};
 ghost use Rattle.maid_model.specs.Profiles.{pure_row};
@@ -81,7 +81,7 @@ fn take_choices(
 
 /// Whether the two lists are one.
 fn are_same(these: &[usize], those: &[usize]) -> bool
-    ensures { IsTrue result → these.now ≡ those.now }
+    ensures { IsTrue result ↔ (these.now ≡ those.now) }
 {
     these == those
 }

@@ -91,6 +91,7 @@ fn sums_to<C: Cell + PartialEq>(
     requires few { cells ≤ MOST_PLAN_CELLS }
 {
     let diagram = make_example(alloc)?;
+    let _count = diagram.count();
     let profile = Profile::uniform(alloc, &diagram)?;
     let mut space = Workspace::<C>::reserve(alloc, cells)?;
     let limits = Limits { cells, work };

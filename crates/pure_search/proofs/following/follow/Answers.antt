@@ -63,7 +63,7 @@ loop-decision-preserved c =
           subst (FollowsSoFar nodes c.args.agent kept ds before choices (i + 1) c.if-not-are_same.start) (sym w.sum-is)
           (subst (λ n. FollowsSoFar nodes c.args.agent kept ds before choices (i + 1) n c.loop-decision.sum) (sym w.start-is)
           (follow_same nodes c.args.agent kept anc ds c.requires.decisions before choices i start c.rows.result c.loop-decision.sum c.loop-decision.invariant c.loop-decision-test.true c.rows.ensures
-          (w.if-not-are_same.ensures refl)))
+          (w.if-not-are_same.ensures.0 refl)))
     ]
 
 pub returns : goal.returns
