@@ -136,5 +136,5 @@ pub fn add_arc(
     }
     let mut nodes = copy_nodes(alloc, diagram)?;
     put_arc(&mut nodes, from, to)?;
-    Ok(with_nodes(diagram, nodes))
+    Ok(with_nodes(alloc, diagram, nodes)?)
 }

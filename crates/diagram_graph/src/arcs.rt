@@ -74,7 +74,7 @@ pub fn remove_arc(
     }
     let mut nodes = copy_nodes(alloc, diagram)?;
     drop_arc(&mut nodes, from, to);
-    Ok(with_nodes(diagram, nodes))
+    Ok(with_nodes(alloc, diagram, nodes)?)
 }
 
 /// The diagram without an arc that is there, as `remove_arc` gives it.
@@ -99,16 +99,25 @@ pub fn without_arc(
     }
 }
 
-/// The diagram without an arc that is there, out of the diagram itself: nothing is copied, and no memory taken.
-pub fn lose_arc(diagram: Diagram, from: usize, to: usize) -> Diagram
+/// The diagram without an arc that is there, out of the diagram itself: no node is copied.
+///
+/// # Errors
+///
+/// Only where memory runs out.
+pub fn lose_arc(
+    alloc: Global,
+    diagram: Diagram,
+    from: usize,
+    to: usize,
+) -> Result<Diagram, AllocError>
     requires decision { IsDecision diagram.nodes to }
     requires arc { Arc diagram.nodes from to }
-    ensures { IsWithNodes diagram (without_arc diagram.nodes from to) result }
+    ensures { IfOk result (IsWithNodes diagram (without_arc diagram.nodes from to)) }
 {
     arc_removed();
     let agents = diagram.agents();
     let decimals = diagram.decimals();
     let mut nodes = diagram.into_nodes();
     drop_arc(&mut nodes, from, to);
-    Diagram::from_nodes(nodes, agents, decimals)
+    Diagram::from_nodes(alloc, nodes, agents, decimals)
 }

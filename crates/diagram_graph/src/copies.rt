@@ -38,11 +38,15 @@ pub fn copy_nodes(alloc: Global, diagram: &Diagram) -> Result<Vec<Node>, AllocEr
 }
 
 /// The diagram with these nodes in place of its own.
-pub(crate) fn with_nodes(diagram: &Diagram, nodes: Vec<Node>) -> Diagram
+pub(crate) fn with_nodes(
+    alloc: Global,
+    diagram: &Diagram,
+    nodes: Vec<Node>,
+) -> Result<Diagram, AllocError>
     requires { IsDiagram (with_nodes diagram.now nodes.items) }
-    ensures { result ≡ with_nodes diagram.now nodes.items }
+    ensures { IfOk result (λ made. made ≡ with_nodes diagram.now nodes.items) }
 {
-    Diagram::from_nodes(nodes, diagram.agents(), diagram.decimals())
+    Diagram::from_nodes(alloc, nodes, diagram.agents(), diagram.decimals())
 }
 
 /// A copy of the diagram. It takes the time and the memory of all cells.
@@ -54,5 +58,5 @@ pub fn copy_diagram(alloc: Global, diagram: &Diagram) -> Result<Diagram, AllocEr
     ensures { IfOk result (λ copy. copy ≡ diagram.now) }
 {
     let nodes = copy_nodes(alloc, diagram)?;
-    Ok(Diagram::from_nodes(nodes, diagram.agents(), diagram.decimals()))
+    Diagram::from_nodes(alloc, nodes, diagram.agents(), diagram.decimals())
 }

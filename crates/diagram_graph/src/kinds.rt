@@ -90,7 +90,7 @@ pub fn make_decision(
     let mut nodes = copy_nodes(alloc, diagram)?;
     let made = decision_node(alloc, diagram, node, agent)?;
     put(&mut nodes, node, made);
-    Ok(with_nodes(diagram, nodes))
+    Ok(with_nodes(alloc, diagram, nodes)?)
 }
 
 /// The rows answered at the decision, none where it has no answer.
@@ -196,5 +196,5 @@ pub fn fix_others(
     for v in 0..diagram.count() {
         nodes.push(fixed_node(alloc, diagram, agent, &solved.answers, v)?)?;
     }
-    Ok(with_nodes(diagram, nodes))
+    with_nodes(alloc, diagram, nodes)
 }

@@ -133,7 +133,7 @@ pub fn part(alloc: Global, diagram: &Diagram, of: &[usize]) -> Result<SubDiagram
     let kept = kept_nodes(alloc, diagram, of)?;
     let nodes = part_nodes(alloc, diagram, &kept)?;
     Ok(SubDiagram {
-        diagram: with_nodes(diagram, nodes),
+        diagram: with_nodes(alloc, diagram, nodes)?,
         nodes: kept,
     })
 }

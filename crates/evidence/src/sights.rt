@@ -152,5 +152,5 @@ pub(crate) fn see(alloc: Global, diagram: &Diagram, node: usize) -> Result<Diagr
         return Err(GivenFault::RulesTooLarge);
     }
     let nodes = nodes_seeing(alloc, diagram, node)?;
-    Ok(Diagram::from_nodes(nodes, diagram.agents(), diagram.decimals()))
+    Ok(Diagram::from_nodes(alloc, nodes, diagram.agents(), diagram.decimals())?)
 }

@@ -61,7 +61,8 @@ pub struct Diagram {
     nodes: Vec<Node>,
     agents: usize,
     decimals: u32,
-    index: NodeIndex,
+    /// In a place of its own, so that a diagram that is moved is small.
+    index: Box<NodeIndex>,
 }
 
 impl Model for Diagram {
@@ -73,22 +74,32 @@ impl Model for Diagram {
     ghost view = { λ d. diagram_of d.nodes.items d.agents d.decimals };
 
     ghost invariant = { λ d.
-        IsIndexed (diagram_of d.nodes.items d.agents d.decimals) d.index };
+        IsIndexed (diagram_of d.nodes.items d.agents d.decimals) d.index.value };
 }
 
 impl Diagram {
-    /// The diagram of these nodes. It takes no memory, and goes over all arcs once.
-    pub fn from_nodes(nodes: Vec<Node>, agents: usize, decimals: u32) -> Diagram
+    /// The diagram of these nodes. It goes over all arcs once, and takes memory for the sets that it keeps of them, as
+    /// much whatever the nodes are.
+    ///
+    /// # Errors
+    ///
+    /// Only where memory runs out.
+    pub fn from_nodes(
+        alloc: Global,
+        nodes: Vec<Node>,
+        agents: usize,
+        decimals: u32,
+    ) -> Result<Diagram, AllocError>
         requires { IsDiagram (diagram_of nodes.items agents decimals) }
-        ensures { result ≡ diagram_of nodes.items agents decimals }
+        ensures { IfOk result (λ d. d ≡ diagram_of nodes.items agents decimals) }
     {
-        let index = NodeIndex::of(&nodes);
-        Diagram {
+        let index = Box::new(alloc, NodeIndex::of(&nodes))?;
+        Ok(Diagram {
             nodes,
             agents,
             decimals,
             index,
-        }
+        })
     }
 
     /// The nodes, by number. It takes no memory.

@@ -83,7 +83,7 @@ fn make_diagram(
 {
     let mut cells = tables.cells;
     let list = make_nodes(alloc, &nodes.heads, &nodes.more, &links.parents, &mut cells)?;
-    Ok(Diagram::from_nodes(list, nodes.agents.len(), tables.decimals))
+    Diagram::from_nodes(alloc, list, nodes.agents.len(), tables.decimals)
 }
 
 // The names, labels and agents of these nodes.

@@ -36,7 +36,7 @@ pub fn trim(alloc: Global, diagram: &Diagram) -> Result<Trimmed, AllocError>
     let mut removed = Vec::new(alloc);
     let mut trimmed = copy_diagram(alloc, diagram)?;
     'looks: while let Some((from, to)) = first_to_remove(&trimmed) {
-        trimmed = lose_arc(trimmed, from, to);
+        trimmed = lose_arc(alloc, trimmed, from, to)?;
         removed.push((from, to))?;
     }
     let _count = trimmed.count();

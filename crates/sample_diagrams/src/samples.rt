@@ -122,5 +122,5 @@ pub fn sample_diagram(
     for node in nodes {
         made.push(node.node(alloc)?)?;
     }
-    Ok(Diagram::from_nodes(made, agents, decimals))
+    Diagram::from_nodes(alloc, made, agents, decimals)
 }

@@ -62,7 +62,7 @@ fn rewrite(
     let mut nodes = copy_nodes(alloc, diagram)?;
     let made = with_cells(alloc, diagram.node(place.node), cells)?;
     nodes[place.node] = made;
-    Ok(Diagram::from_nodes(nodes, diagram.agents(), diagram.decimals()))
+    Diagram::from_nodes(alloc, nodes, diagram.agents(), diagram.decimals())
 }
 
 /// The diagram in which the probability is 0: the other states share the whole total.

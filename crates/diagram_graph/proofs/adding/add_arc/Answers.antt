@@ -14,7 +14,7 @@ pub returns-clause-more : goal.returns-clause-more
 returns-clause-more c =
     let diagram = c.args.diagram.now in
     let nodes : c.put_arc.new.nodes.items ≡ with_arc diagram.nodes c.args.from c.args.to = c.in_ok-put_arc.ensures ∙ ap (λ ns. with_arc ns c.args.from c.args.to) c.in_ok-nodes.ensures in
-    c.with_nodes.ensures ∙ ap (λ ns. with_nodes diagram ns) nodes
+    c.in_ok-with_nodes.ensures ∙ ap (λ ns. with_nodes diagram ns) nodes
 
 pub returns-then-contains-clause-present : goal.returns-then-contains-clause-present
 returns-then-contains-clause-present c = ((λ _. subst (λ (us : List ℕ). Contains us c.args.from) c.parents.ensures.parents (member c.parents.result.now c.args.from c.if-contains.ensures.cases)), (λ _. refl))

@@ -1,6 +1,8 @@
 use Rattle.std.proofs.Common.{◌≡◌, ◌<◌, ◌∙◌, List, length, ap, refl, sym, subst}
+use Rattle.std.proofs.lemmas.Result.{IfOk-weaker}
 use Rattle.maid_model.specs.Edits.{without_arc}
-use Rattle.maid_model.specs.Views.{NodeView}
+use Rattle.maid_model.specs.Views.{NodeView, diagram_of}
+use Rattle.diagram_graph.specs.Edited.{IsWithNodes}
 use Rattle.diagram_graph.proofs.Losing.{less_kept}
 use Rattle.diagram_graph.proofs.arcs.lose_arc.Goals as goal
 
@@ -19,4 +21,5 @@ pub returns : goal.returns
 returns c =
     let diagram = c.args.diagram in
     let nodes : c.drop_arc.new.nodes.items ≡ without_arc diagram.nodes c.args.from c.args.to = c.drop_arc.ensures ∙ ap (λ ns. without_arc ns c.args.from c.args.to) c.into_nodes-nodes.ensures.nodes in
-    rw (c.from_nodes.ensures, nodes, c.agents-agents.ensures.agents, c.decimals-decimals.ensures.decimals) refl
+    IfOk-weaker c.from_nodes.result (λ d. d ≡ diagram_of c.drop_arc.new.nodes.items c.agents-agents.result c.decimals-decimals.result) (IsWithNodes diagram (without_arc diagram.nodes c.args.from c.args.to))
+    (λ d is. is ∙ (λ i. diagram_of (nodes i) (c.agents-agents.ensures.agents i) (c.decimals-decimals.ensures.decimals i))) c.from_nodes.ensures

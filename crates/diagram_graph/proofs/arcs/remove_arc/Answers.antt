@@ -21,7 +21,7 @@ pub returns-clause-less : goal.returns-clause-less
 returns-clause-less c =
     let diagram = c.args.diagram.now in
     let nodes : c.drop_arc.new.nodes.items ≡ without_arc diagram.nodes c.args.from c.args.to = c.drop_arc.ensures ∙ ap (λ ns. without_arc ns c.args.from c.args.to) c.in_ok-nodes.ensures in
-    c.with_nodes.ensures ∙ ap (λ ns. with_nodes diagram ns) nodes
+    c.in_ok-with_nodes.ensures ∙ ap (λ ns. with_nodes diagram ns) nodes
 
 pub with_nodes-requires : goal.with_nodes-requires
 with_nodes-requires c =

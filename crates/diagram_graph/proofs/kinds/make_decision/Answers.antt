@@ -12,7 +12,7 @@ pub returns-clause-made : goal.returns-clause-made
 returns-clause-made c =
     let diagram = c.args.diagram.now in
     let nodes : c.put.new.nodes.items ≡ as_decision diagram.nodes c.args.agent c.args.node = c.put.ensures ∙ (λ i. slice_set (c.in_ok-nodes.ensures i) c.args.node (c.in_ok-made.ensures i)) in
-    c.with_nodes.ensures ∙ (λ i. with_nodes diagram (nodes i))
+    c.in_ok-with_nodes.ensures ∙ (λ i. with_nodes diagram (nodes i))
 
 pub returns-then-cells-gt-MOST_RULE_CELLS-clause-too_large :
     goal.returns-then-cells-gt-MOST_RULE_CELLS-clause-too_large
@@ -31,6 +31,13 @@ returns-in_err-nodes-clause-too_large c =
 
 pub returns-in_err-made-clause-too_large : goal.returns-in_err-made-clause-too_large
 returns-in_err-made-clause-too_large c =
+    let grown = rules_grow c.args.diagram.now.nodes c.args.agent c.args.node c.requires.chance in
+    let all = c.rule_cells.ensures in
+    let here = c.cells_at.ensures.cells in
+    let few = c.if-cells-gt-MOST_RULE_CELLS.false in (search rules, (λ l. absurd (omega arith)))
+
+pub returns-in_err-with_nodes-clause-too_large : goal.returns-in_err-with_nodes-clause-too_large
+returns-in_err-with_nodes-clause-too_large c =
     let grown = rules_grow c.args.diagram.now.nodes c.args.agent c.args.node c.requires.chance in
     let all = c.rule_cells.ensures in
     let here = c.cells_at.ensures.cells in
