@@ -32,7 +32,7 @@ pub record RowsSoFar (nodes : List NodeView) (v rows : ℕ) (us : List ℕ) (i :
   pub rest : rows * rows_under (states_of nodes) (drop i us) ≡ rows_of nodes v
 
 module _ (d : DiagramView) (is : IsDiagram d) (v rows i u c : ℕ) (us : List ℕ) (v_in : v < length d.nodes) (s : RowsSoFar d.nodes v rows us i) (i_in : i < length us) (u_is : u ≡ get_or us i 0) (c_is : c ≡ states_of d.nodes u) where
-  rows_next : rows * c * rows_under (states_of d.nodes) (drop (i + 1) us) ≡ rows_of d.nodes v
+  pub rows_next : rows * c * rows_under (states_of d.nodes) (drop (i + 1) us) ≡ rows_of d.nodes v
   rows_next =
       ap (λ n. rows * n * rows_under (states_of d.nodes) (drop (i + 1) us)) (c_is ∙ ap (states_of d.nodes) u_is)
       ∙ mul_assoc rows (states_of d.nodes (get_or us i 0)) (rows_under (states_of d.nodes) (drop (i + 1) us))

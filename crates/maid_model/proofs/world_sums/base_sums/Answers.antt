@@ -1,12 +1,14 @@
-use Rattle.std.proofs.Common.{◌∙◌, ◌+◌, ◌*◌, arith, refl, pos, subst, sym, ap, get_or, replicate}
+use Rattle.std.proofs.Common.{◌≡◌, ℕ, ◌<◌, List, length, ◌∙◌, ◌+◌, ◌*◌, arith, refl, pos, subst, sym, ap, get_or, replicate}
 use Rattle.std.proofs.lemmas.Int.{to_z-of_z}
 use Rattle.std.specs.Int.{w128}
 use mir.Val.{to_z, of_z}
 use Rattle.maid_model.specs.Gains.{base_mass}
-use Rattle.maid_model.specs.Nodes.{rows_of, states_of}
+use Rattle.maid_model.specs.Views.{NodeView}
+use Rattle.maid_model.specs.Nodes.{counts_of, rows_of, states_of}
+use Rattle.maid_model.specs.Worlds.{IsWorld}
 use Rattle.maid_model.proofs.Adding.{HasRoom}
 use Rattle.maid_model.proofs.Bases.{BaseSoFar, state_read, base_start, base_room, code_place, code_row, code_gain, code_mass, base_step, base_gains, base_masses, base_gains_small, base_masses_small}
-use Rattle.maid_model.proofs.Picked.{cell_times_fits, cell_fits}
+use Rattle.maid_model.proofs.Picked.{cell_times_fits, cell_fits, world_length}
 use Rattle.maid_model.proofs.Below.{goals_are_utilities, goals_marked}
 use Rattle.maid_model.proofs.world_sums.base_sums.Goals as goal
 
@@ -90,3 +92,9 @@ worlds-preserved c =
     base_step c.args.diagram.now c.states-states.ensures.diagram c.args.profile.now c.requires.profile c.args.decision c.goals_of-marks.result (goals_are_utilities _ _ _ c.goals_of-marks.ensures) (goals_marked _ _ _ c.goals_of-marks.ensures) c.requires.fits c.worlds.gains c.worlds.masses c.worlds.world c.worlds.invariant c.world_weight-weight.result c.world_weight-weight.ensures.weight (to_z w128 (of_z w128 c.world_gain-gain.result)) (to_z-of_z w128 c.world_gain-gain.result (record { sfits = c.world_gain-gain.type_inv }) ∙ c.world_gain-gain.ensures) c.row-row.result c.index-state.result.now (c.row-row.result * c.states-states.result + c.index-state.result.now) c.row-row.ensures (state_read c.args.diagram.now.nodes c.world.inside.states.items c.worlds.world c.args.decision c.index-state.result.now c.worlds.invariant.world c.requires.decision.within c.world.view_is c.index-state.ensures)
     (λ i. c.row-row.ensures i * c.states-states.ensures.states i + (state_read c.args.diagram.now.nodes c.world.inside.states.items c.worlds.world c.args.decision c.index-state.result.now c.worlds.invariant.world c.requires.decision.within c.world.view_is c.index-state.ensures) i)
     c.add_gain.new.gains c.add_mass.new.masses c.add_gain.ensures c.add_mass.ensures c.next.new.self c.if-not-next.ensures.world (c.if-not-next.ensures.more refl)
+
+place_in : (nodes : List NodeView) (xs items : List ℕ) (v n : ℕ) → IsWorld (counts_of nodes) xs → v < length nodes → items ≡ xs → n ≡ length items → v < n
+place_in nodes xs items v n w l e len = omega (arith, l, world_length nodes xs w, ap length e, len)
+
+pub index-state-requires : goal.index-state-requires
+index-state-requires c = place_in c.args.diagram.now.nodes _ _ c.args.decision _ c.worlds.invariant.world c.requires.decision.within c.world.view_is c.world.inside.states.ok.0

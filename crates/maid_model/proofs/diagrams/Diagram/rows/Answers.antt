@@ -1,5 +1,5 @@
 use Rattle.std.proofs.Common.{refl, arith}
-use Rattle.maid_model.proofs.Cells.{parent_known, rows_fit}
+use Rattle.maid_model.proofs.Cells.{parent_known, rows_fit, rows_next}
 use Rattle.maid_model.proofs.diagrams.Diagram.rows.Goals as goal
 
 pub states-rows-requires : goal.states-rows-requires
@@ -7,3 +7,9 @@ states-rows-requires c = parent_known c.args.self.now.nodes c.args.v c.loop-u.u-
 
 pub overflow_mul-rows : goal.overflow_mul-rows
 overflow_mul-rows c = omega (arith, rows_fit c.args.self.now c.parents-u-items.ensures.diagram c.args.v c.loop-u.rows c.loop-u.u-index _ c.states-rows.result c.parents-u-items.result.now c.requires c.loop-u.invariant c.loop-u-test.true refl c.states-rows.ensures.states)
+
+pub loop-u-preserved : goal.loop-u-preserved
+loop-u-preserved c = record {
+  parents = c.loop-u.invariant.parents;
+  rest = rows_next c.args.self.now c.parents-u-items.ensures.diagram c.args.v c.loop-u.rows c.loop-u.u-index _ c.states-rows.result c.parents-u-items.result.now c.requires c.loop-u.invariant c.loop-u-test.true refl c.states-rows.ensures.states;
+}
