@@ -1,4 +1,5 @@
-use Rattle.std.proofs.Common.{◌+◌, map, ap, subst, arith}
+use Rattle.std.proofs.Common.{◌∙◌, ◌+◌, length, map, sym, ap, subst, arith}
+use Rattle.std.proofs.lemmas.List.{length-map}
 use Rattle.maid_model.specs.Nodes.{node_at, parents_of, states_of, rows_under}
 use Rattle.plan_sums.specs.Plans.{utility_table}
 use Rattle.factor_core.specs.Copies.{list_table}
@@ -26,3 +27,10 @@ returns-clause-table g c =
     (subst (λ xs. AppendsTable r d.nodes before after c.write_table.result (list_table r d.nodes xs cells)) c.parents.ensures.parents
     (subst (λ zs. AppendsTable r d.nodes before after c.write_table.result (list_table r d.nodes c.parents.result.now (map g.C.Cell.of_value zs))) c.cells.ensures.cells c.write_table.ensures.table))
     (value_same d c.parents.ensures.diagram c.args.v c.requires.node k c.requires.kind)
+
+pub write_table-requires-clause-cells : goal.write_table-requires-clause-cells
+write_table-requires-clause-cells g c =
+    length-map c.cells.result.now g.C.Cell.of_value
+    ∙ ap length c.cells.ensures.cells
+    ∙ c.parents.ensures.diagram.values.utility c.args.v c.requires.node c.requires.kind
+    ∙ ap (rows_under (states_of c.args.diagram.now.nodes)) (sym c.parents.ensures.parents)

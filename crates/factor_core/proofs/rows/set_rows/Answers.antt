@@ -1,8 +1,8 @@
-use Rattle.std.proofs.Common.{◌≡◌, ℕ, ◌+◌, ◌-◌, ◌<◌, ◌≤◌, ◌⊎◌, length, get_or, refl, sym, ap, ◌∙◌, subst, arith, inl, inr}
+use Rattle.std.proofs.Common.{◌≡◌, ℕ, ◌+◌, ◌-◌, ◌<◌, ◌≤◌, ◌⊎◌, length, get_or, refl, sym, ap, ◌∙◌, subst, arith, mul-le-mul_right, inl, inr}
 use Rattle.std.proofs.lemmas.Bool.{cases_lt}
 use Rattle.factor_core.specs.Rows.{HasStrideRow, row_beside}
 use Rattle.factor_core.proofs.Listing.{listed_few}
-use Rattle.factor_core.proofs.StrideRows.{parts_begin, parts_taken, waits_next, taken_next, waits_beyond, beside_once, equal_or_not}
+use Rattle.factor_core.proofs.StrideRows.{parts_begin, parts_taken, waits_next, taken_next, waits_beyond, beside, beside_once, equal_or_not}
 use Rattle.factor_core.proofs.rows.set_rows.Goals as goal
 use Rattle.factor_core.proofs.rows.set_rows.Goals.{else-low-node-via-then-low-node+else-node-high, else-low-node-via-else-low-node}
 
@@ -74,6 +74,17 @@ loop-i-preserved c =
 
 pub bounds-kept-i : goal.bounds-kept-i
 bounds-kept-i c = omega (arith, c.loop-i.auto.i, c.loop-i-test.true)
+
+pub offset_bounds-kept-i : goal.offset_bounds-kept-i
+offset_bounds-kept-i c = record { fits = omega (arith, c.loop-i.auto.i, ap length c.requires.kept.listing, listed_few c.requires.kept.scope (length c.args.counts.now), c.requires.counts.few) }
+
+pub overflow_step-i : goal.overflow_step-i
+overflow_step-i c = c.loop-i-test.true
+
+pub set_row-requires-clause-room : goal.set_row-requires-clause-room
+set_row-requires-clause-room c =
+    let within : c.place_beside.result + 1 ≤ length c.args.kept.now + 1 = omega (arith, beside c.args.at (c.loop-i.i - 1), c.place_beside.ensures, c.loop-i.auto.i, c.loop-i-test.true) in
+    omega (arith, mul-le-mul_right (length c.args.slots.now) within, c.requires.room, c.loop-i.invariant.0)
 
 pub loop-i-smaller-then-node-high : goal.loop-i-smaller-then-node-high
 loop-i-smaller-then-node-high c = omega (arith, c.loop-i-test.true)

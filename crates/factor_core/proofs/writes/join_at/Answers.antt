@@ -1,5 +1,5 @@
-use Rattle.std.proofs.Common.{rules, ◌≡◌, length, take, arith, sym, ap, subst, ◌∙◌}
-use Rattle.std.proofs.lemmas.List.{length-take-le}
+use Rattle.std.proofs.Common.{rules, ◌≡◌, length, take, arith, sym, ap, subst, le_of_eq, ◌∙◌}
+use Rattle.std.proofs.lemmas.List.{length-take-le, take-append-le, take_all}
 use Rattle.factor_core.specs.Tables.{CanJoin, join_cell}
 use Rattle.factor_core.proofs.Parts.{world_between}
 use Rattle.factor_core.proofs.writes.join_at.Goals as goal
@@ -32,3 +32,9 @@ returns-clause-cells g c = λ w ok.
     world_between r counts c.args.scope.now c.args.all.now c.join_into.new.out c.split_at_mut-out.result.1.now c.args.start (omega (arith, c.requires.within)) front (out_len ∙ c.requires.len) w ok
     ∙ c.join_into.ensures w ok
     ∙ ap (λ cells. join_cell r cells counts c.args.slots.now c.args.node w) front
+
+pub returns-clause-kept : goal.returns-clause-kept
+returns-clause-kept g c =
+    let front = c.split_at_mut-cells.result.0.now in
+    let long = c.split_at_mut-cells.ensures.front_len in
+    take-append-le c.args.start front _ (le_of_eq (sym long)) ∙ take_all c.args.start front (le_of_eq long) ∙ c.split_at_mut-cells.ensures.front

@@ -98,3 +98,9 @@ place_in nodes xs items v n w l e len = omega (arith, l, world_length nodes xs w
 
 pub index-state-requires : goal.index-state-requires
 index-state-requires c = place_in c.args.diagram.now.nodes _ _ c.args.decision _ c.worlds.invariant.world c.requires.decision.within c.world.view_is c.world.inside.states.ok.0
+
+pub worlds-smaller : goal.worlds-smaller
+worlds-smaller c = omega (arith, ap length (c.if-not-next.ensures.more refl))
+
+pub returns-then-not-next-clause-again : goal.returns-then-not-next-clause-again
+returns-then-not-next-clause-again c = c.if-not-next.ensures.again refl ∙ sym c.requires.first

@@ -1,4 +1,4 @@
-use Rattle.std.proofs.Common.{◌≡◌, ◌≤◌, arith, refl, pos, subst, sym, length}
+use Rattle.std.proofs.Common.{length, sym, refl, ap, arith, ◌∙◌, ◌≡◌, ◌≤◌, pos, subst}
 use Rattle.std.specs.Int.{w128}
 use Rattle.std.specs.Int.RustNames.{FitsSigned}
 use mir.Val.{to_z}
@@ -50,3 +50,9 @@ pub worlds-preserved : goal.worlds-preserved
 worlds-preserved c =
     let f : FitsSigned w128 c.world_gain-sum.result = record { sfits = c.world_gain-sum.type_inv } in
     leaves_step c.args.diagram.now c.count-nothing.ensures.diagram c.args.profile.now c.requires.profile c.args.agent c.utilities_of-marks.result c.utilities_of-marks.ensures.tested c.requires.fits (to_z w128 c.worlds.sum-bits) c.worlds.world c.worlds.invariant c.world_weight-weight.result (subst (λ n. pos c.world_weight-weight.result ≡ weight_in c.args.diagram.now.nodes c.args.profile.now n c.worlds.world) c.count-nothing.ensures.count c.world_weight-weight.ensures.weight) c.world_gain-sum.result c.world_gain-sum.ensures f c.next.new.self c.if-not-next.ensures.world (c.if-not-next.ensures.more refl)
+
+pub worlds-smaller : goal.worlds-smaller
+worlds-smaller c = omega (arith, ap length (c.if-not-next.ensures.more refl))
+
+pub returns-then-not-next-clause-again : goal.returns-then-not-next-clause-again
+returns-then-not-next-clause-again c = c.if-not-next.ensures.again refl ∙ sym c.requires.first
