@@ -21,3 +21,27 @@ pub run_sized-requires-else-has_many-2-clause-tables : goal.run_sized-requires-e
 run_sized-requires-else-has_many-2-clause-tables g c =
     let few : length c.args.diagram.now.nodes ≤ 64 = search rules in
     omega (arith, few, few_nodes c.args.diagram.now.nodes c.args.plan.now.plan c.requires.asked.is_plan c.requires.asked.known)
+
+pub run_sized-requires-clause-made : goal.run_sized-requires-clause-made
+run_sized-requires-clause-made g c = c.requires.made
+
+pub run_sized-requires-clause-fits : goal.run_sized-requires-clause-fits
+run_sized-requires-clause-fits g c = c.requires.fits
+
+pub run_sized-requires-else-has_many-clause-made : goal.run_sized-requires-else-has_many-clause-made
+run_sized-requires-else-has_many-clause-made g c = c.requires.made
+
+pub run_sized-requires-else-has_many-clause-fits : goal.run_sized-requires-else-has_many-clause-fits
+run_sized-requires-else-has_many-clause-fits g c = c.requires.fits
+
+pub run_sized-requires-then-has_many-2-clause-made : goal.run_sized-requires-then-has_many-2-clause-made
+run_sized-requires-then-has_many-2-clause-made g c = c.requires.made
+
+pub run_sized-requires-then-has_many-2-clause-fits : goal.run_sized-requires-then-has_many-2-clause-fits
+run_sized-requires-then-has_many-2-clause-fits g c = c.requires.fits
+
+pub run_sized-requires-else-has_many-2-clause-made : goal.run_sized-requires-else-has_many-2-clause-made
+run_sized-requires-else-has_many-2-clause-made g c = c.requires.made
+
+pub run_sized-requires-else-has_many-2-clause-fits : goal.run_sized-requires-else-has_many-2-clause-fits
+run_sized-requires-else-has_many-2-clause-fits g c = c.requires.fits
