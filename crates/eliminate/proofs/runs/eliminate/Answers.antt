@@ -10,6 +10,7 @@ use Rattle.eliminate.specs.Steps.{slots_with, slots_without}
 use Rattle.eliminate.proofs.Bounds.{front_holds, front_few, front_room, found_within, found_few, gathered_with}
 use Rattle.eliminate.proofs.Placing.{left_slots, from_few}
 use Rattle.eliminate.proofs.Stepping.{all_filter, all_pass, fewer}
+use Rattle.eliminate.proofs.runs.eliminate.Given.{Over}
 use Rattle.eliminate.proofs.runs.eliminate.Goals as goal
 
 -- where one of the live slots leaves, there is a place for the next
@@ -17,6 +18,10 @@ left_few : (live : NodeSet) (made node : ℕ) (slots : List Slot) → made ≤ l
     → (left : List Slot) → left ≡ slots_without node (live_slots live made slots) → length left < length slots
 left_few live made node slots within some left e =
     omega (arith, ap length e, fewer (λ s. holds s.scope node) (live_slots live made slots) some, from_few (holds live) 0 (take made slots), length-take-le made slots within, within)
+
+-- the slots that were gathered
+found_is : (g : Over) (c : goal.After-before-3 g) → c.before-3.result.now ≡ slots_with c.args.node (live_slots c.args.places.live c.args.places.made c.args.slots.now)
+found_is g c = gathered_with c.requires.board c.args.node c.places_of-held.result c.requires.node c.places_of-held.ensures c.before-2.ensures c.gather-count.ensures.list c.before-3.ensures
 
 pub places_of-held-requires : goal.places_of-held-requires
 places_of-held-requires g c = c.requires.node
@@ -47,31 +52,26 @@ join_out-slot-requires-clause-few g c = found_few c.args.places.made c.args.slot
 
 pub join_out-slot-requires-clause-some : goal.join_out-slot-requires-clause-some
 join_out-slot-requires-clause-some g c =
-    let is = gathered_with c.requires.board c.args.node c.places_of-held.result c.requires.node c.places_of-held.ensures c.before-2.ensures c.gather-count.ensures.list c.before-3.ensures in
-    subst (λ (l : List Slot). 0 < length l) (sym is) c.requires.join.some
+    subst (λ (l : List Slot). 0 < length l) (sym (found_is g c)) c.requires.join.some
 
 pub join_out-slot-requires-clause-live : goal.join_out-slot-requires-clause-live
 join_out-slot-requires-clause-live g c =
     let slots = live_slots c.args.places.live c.args.places.made c.args.slots.now in
-    let is = gathered_with c.requires.board c.args.node c.places_of-held.result c.requires.node c.places_of-held.ensures c.before-2.ensures c.gather-count.ensures.list c.before-3.ensures in
-    subst (λ (l : List Slot). All (IsLiveSlot c.args.play.now.diagram.now.nodes c.args.work.now.cells) l) (sym is)
+    subst (λ (l : List Slot). All (IsLiveSlot c.args.play.now.diagram.now.nodes c.args.work.now.cells) l) (sym (found_is g c))
     (all_filter (IsLiveSlot c.args.play.now.diagram.now.nodes c.args.work.now.cells) (λ s. holds s.scope c.args.node) slots c.requires.join.live)
 
 pub join_out-slot-requires-clause-hold : goal.join_out-slot-requires-clause-hold
 join_out-slot-requires-clause-hold g c =
     let slots = live_slots c.args.places.live c.args.places.made c.args.slots.now in
-    let is = gathered_with c.requires.board c.args.node c.places_of-held.result c.requires.node c.places_of-held.ensures c.before-2.ensures c.gather-count.ensures.list c.before-3.ensures in
-    subst (λ (l : List Slot). All (λ s. IsIn s.scope c.args.node) l) (sym is) (all_pass (λ s. holds s.scope c.args.node) slots)
+    subst (λ (l : List Slot). All (λ s. IsIn s.scope c.args.node) l) (sym (found_is g c)) (all_pass (λ s. holds s.scope c.args.node) slots)
 
 pub join_out-slot-requires-clause-fits : goal.join_out-slot-requires-clause-fits
 join_out-slot-requires-clause-fits g c =
-    let is = gathered_with c.requires.board c.args.node c.places_of-held.result c.requires.node c.places_of-held.ensures c.before-2.ensures c.gather-count.ensures.list c.before-3.ensures in
-    subst (λ (l : List Slot). JoinOfFits g.C.Cell.ring c.args.play.now.diagram.now.nodes c.args.node l c.args.work.now) (sym is) c.requires.join.fits
+    subst (λ (l : List Slot). JoinOfFits g.C.Cell.ring c.args.play.now.diagram.now.nodes c.args.node l c.args.work.now) (sym (found_is g c)) c.requires.join.fits
 
 pub join_out-slot-requires-clause-room : goal.join_out-slot-requires-clause-room
 join_out-slot-requires-clause-room g c =
-    let is = gathered_with c.requires.board c.args.node c.places_of-held.result c.requires.node c.places_of-held.ensures c.before-2.ensures c.gather-count.ensures.list c.before-3.ensures in
-    subst (λ (l : List Slot). HasSpareForJoin g.C.Cell.ring c.args.play.now.diagram.now.nodes c.args.node l c.args.work.now) (sym is) c.requires.join.room
+    subst (λ (l : List Slot). HasSpareForJoin g.C.Cell.ring c.args.play.now.diagram.now.nodes c.args.node l c.args.work.now) (sym (found_is g c)) c.requires.join.room
 
 pub put_slot-requires-clause-board : goal.put_slot-requires-clause-board
 put_slot-requires-clause-board g c = record { noted = c.requires.board.noted; within = λ k t. c.requires.board.within k ((c.difference.ensures k).0 t).0 }
