@@ -1,7 +1,7 @@
 -- One level of a copy: the states of the first step one after another, each with the copy over the steps below.
 use Rattle.std.proofs.Common.{◌≡◌, ◌∙◌, ℕ, zero, suc, ◌+◌, ◌-◌, ◌*◌, ◌^◌, ◌<◌, ◌≤◌, List, [], ◌∷◌, ◌++◌, take, drop, set, length, get_or, refl, sym, ap, subst, arith, All, append_assoc, inl, inr}
 use Rattle.std.proofs.Math.Nat.{mul-le-mul_right}
-use Rattle.std.proofs.lemmas.List.{drop_more, drop_all, take_more_set, length-append, get_or_append_left, get_or-append_right}
+use Rattle.std.proofs.lemmas.List.{drop_more, drop_all, take_more_set, map_more, length-append, get_or_append_left, get_or-append_right}
 use Rattle.std.proofs.lemmas.Bool.{cases_lt}
 use Rattle.finite_sums.specs.Sums.{World, InRange, with_state}
 use Rattle.maid_model.specs.Nodes.{rows_under}
@@ -143,3 +143,11 @@ reads_before count stride n (v ∷ vs) from once some ok h = λ s l.
     let same = ap (λ k. k * stride v) (with_same w v s) in
     let other = out_other count stride (λ u. []) 0 (λ u. refl) vs w v s once.0 in
     omega arith)
+
+-- one step more is written
+pub steps_more : (count stride : ℕ → ℕ) (steps : List Step) (order : List ℕ) (i s t : ℕ) → i < length steps → i < length order → s ≡ count (get_or order i 0) → t ≡ stride (get_or order i 0) → take i steps ≡ steps_of count stride (take i order)
+    → take (i + 1) (set steps i (record { states = s; stride = t })) ≡ steps_of count stride (take (i + 1) order)
+steps_more count stride steps order i s t room within few is so_far =
+    take_more_set steps i (record { states = s; stride = t }) room
+    ∙ (λ k. so_far k ++ record { states = few k; stride = is k } ∷ [])
+    ∙ sym (map_more (λ v. record { states = count v; stride = stride v }) order i 0 within)

@@ -179,3 +179,6 @@ returns-clause-table g c =
     ∙ ap (cell_at r copied) (place_is (states_in counts) (holds scope) w (length counts) 0)
     ∙ gathered_at r (states_in counts) stride cells order 0 w ok
     ∙ ap (cell_at r cells) (let z : 0 + out_place stride order w ≡ row_from (states_of d.nodes) w 0 list = omega (arith, along) in z))
+
+pub list_nodes-n-requires-clause-few : goal.list_nodes-n-requires-clause-few
+list_nodes-n-requires-clause-few g c = omega (arith, ap length c.requires.counts, counts_length c.args.diagram.now.nodes, c.requires.diagram.limits.nodes)
