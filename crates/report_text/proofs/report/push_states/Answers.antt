@@ -56,6 +56,11 @@ push_label-requires-clause-state c =
 pub returns-in_err-push_label : goal.returns-in_err-push_label
 returns-in_err-push_label c = rw (err_from_is_err_and c.from_residual.result c.from_residual.ensures.1).1 tt
 
+pub nonzero_rem-rest : goal.nonzero_rem-rest
+nonzero_rem-rest c =
+    let now = step_at (states_of c.args.diagram.now.nodes) c.args.names.now c.args.parents.now c.loop-parent.parent-index c.loop-parent.rest c.loop-parent.below c.states_of-below.result c.loop-parent-test.true c.states_of-below.ensures.states c.states_of-below.ensures.some c.loop-parent.invariant.0 c.loop-parent.invariant.1 in
+    omega (arith, now.row)
+
 pub loop-parent-smaller : goal.loop-parent-smaller
 loop-parent-smaller c = omega (arith, c.loop-parent-test.true)
 
