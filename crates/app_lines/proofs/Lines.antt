@@ -1,5 +1,7 @@
 -- What is written behind what stands already.
-use Rattle.std.proofs.Common.{◌≡◌, ◌∙◌, ℕ, zero, suc, ◌+◌, List, ◌++◌, sym, ap, arith, append_assoc, append-nil, add-one}
+use Rattle.std.proofs.Common.{◌≡◌, ◌∙◌, ℕ, zero, suc, ◌+◌, ◌<◌, List, [], ◌∷◌, ◌++◌, length, take, get_or, sym, ap, arith, append_assoc, append-nil, add-one}
+use Rattle.std.proofs.lemmas.Grind.{flat_map-append}
+use Rattle.std.proofs.lemmas.List.{take_more}
 use Rattle.std.specs.List.{flat_map, range_with_len}
 
 -- the lines of so many numbers, and those of one more
@@ -28,3 +30,12 @@ lines_next text n old new front step kept =
   where
     start : (n : ℕ) → 0 + n ≡ n
     start n = omega arith
+
+-- the text of one element more
+pub text_next : {A : Type 0} (f : A → List ℕ) (old new : List ℕ) (xs : List A) (i : ℕ) (d : A) → i < length xs → old ≡ flat_map f (take i xs) → new ≡ old ++ f (get_or xs i d) → new ≡ flat_map f (take (i + 1) xs)
+text_next f old new xs i d within kept step =
+    let x = get_or xs i d in
+    step
+    ∙ ap (λ out. out ++ f x) kept
+    ∙ ap (λ line. flat_map f (take i xs) ++ line) (sym (append-nil (f x)))
+    ∙ sym (ap (flat_map f) (take_more xs i d within) ∙ flat_map-append f (take i xs) (x ∷ []))

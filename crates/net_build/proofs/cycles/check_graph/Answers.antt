@@ -1,5 +1,5 @@
 -- The cycle that is found is a ring of nodes, the first of which needs the next.
-use Rattle.std.proofs.Common.{refl}
+use Rattle.std.proofs.Common.{refl, arith}
 use Rattle.diagram_graph.specs.Cycles.{lists_in}
 use Rattle.net_build.specs.Linking.{graph_steps}
 use Rattle.net_build.proofs.OutOfMemory.{out_of_memory}
@@ -19,3 +19,6 @@ returns-in-Some c = rw c.cycle_fault.ensures (c.in-Some.cycle.items, rw c.in-Som
 
 pub returns-in-None : goal.returns-in-None
 returns-in-None c = rw c.in-None.is at c.in_ok-cycle.ensures.cycle
+
+pub cycle_fault-requires-clause-within : goal.cycle_fault-requires-clause-within
+cycle_fault-requires-clause-within c = omega (arith, c.requires.len, c.requires.known _ _ (rw c.in-Some.is at c.in_ok-cycle.ensures.ring).closes)
