@@ -1,6 +1,6 @@
 use Rattle.std.proofs.Common.{◌≡◌, ◌∙◌, ◌++◌, [], ◌∷◌, get_or, map, slice_index, sym, ap, subst, arith}
 use Rattle.std.specs.Prelude.{Contains}
-use Rattle.std.proofs.lemmas.List.{map_more}
+use Rattle.std.proofs.lemmas.List.{map_more, take_all}
 use Rattle.std.proofs.lemmas.List.Elements.{Contains-get_or}
 use Rattle.maid_model.specs.Nodes.{node_at, parents_of}
 use Rattle.maid_model.specs.Parts.{place_in, renumbered}
@@ -34,3 +34,12 @@ loop-v-preserved c =
     ∙ ap (with_parents (node_at nodes v)) told in
     c.in_ok-push.ensures.items ∙ (λ i. c.loop-v.invariant i ++ new i ∷ [])
     ∙ sym (map_more (λ x. renumbered kept (node_at nodes x)) kept c.loop-v.v-index 0 c.loop-v-test.true)
+
+pub places-places-requires-clause-differ : goal.places-places-requires-clause-differ
+places-places-requires-clause-differ c = c.requires.once
+
+pub loop-v-init : goal.loop-v-init
+loop-v-init c = c.in_ok-nodes.ensures.items
+
+pub returns : goal.returns
+returns c = c.loop-v.invariant ∙ ap (map (λ v. renumbered c.args.kept.now (node_at c.args.diagram.now.nodes v))) (take_all c.loop-v.v-index c.args.kept.now c.loop-v-test.false)
