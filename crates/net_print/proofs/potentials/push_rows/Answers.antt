@@ -1,13 +1,39 @@
-use Rattle.std.proofs.Common.{◌≡◌, ◌∙◌, ◌<◌, ◌≤◌, ◌+◌, ◌*◌, ◌++◌, length, map, decimal, unsigned_abs, slice_range, rules, arith, subst, sym, ap}
+use Rattle.std.proofs.Common.{◌≡◌, ◌∙◌, ℕ, ◌-◌, drop, ◌<◌, ◌≤◌, ◌+◌, ◌*◌, ◌++◌, length, map, decimal, unsigned_abs, slice_range, rules, arith, subst, sym, ap}
+use Rattle.std.proofs.lemmas.List.{length-take}
+use Rattle.maid_model.specs.declared.limits.TheConstants.{MOST_CELLS}
+use Rattle.maid_model.specs.Diagrams.{IsDiagram}
 use Rattle.maid_model.specs.Nodes.{node_at, states_of, rows_of}
+use Rattle.maid_model.specs.Views.{DiagramView}
 use Rattle.weight_scale.specs.Scaling.{row_at}
 use Rattle.net_build.specs.Plain.{reduced_row, reduced_rows, row_divisor}
 use Rattle.net_print.specs.Printed.{parted}
 use Rattle.net_print.specs.Parts.{parted_behind}
 use Rattle.net_print.proofs.Divisors.{divisor_positive}
-use Rattle.net_print.proofs.Rows.{row_positive, rows_within, rows_more, slice_is_row}
+use Rattle.net_print.proofs.Rows.{row_positive, row_within, rows_within, rows_more, slice_is_row}
 use Rattle.net_print.proofs.Steps.{parted_first}
 use Rattle.net_print.proofs.potentials.push_rows.Goals as goal
+
+room : (d : DiagramView) → IsDiagram d → (v r rows states : ℕ) → v < length d.nodes → r < rows → rows ≡ rows_of d.nodes v → states ≡ states_of d.nodes v → r * states + states ≤ MOST_CELLS
+room d is v r rows states l below same are =
+    let within : r * states_of d.nodes v + states_of d.nodes v ≤ rows_of d.nodes v * states_of d.nodes v = row_within r (rows_of d.nodes v) (states_of d.nodes v) (subst (λ n. r < n) same below) in
+    let most = is.limits.cells v l in
+    subst (λ n. r * n + n ≤ MOST_CELLS) (sym are) (omega arith)
+
+pub overflow_mul-start : goal.overflow_mul-start
+overflow_mul-start c =
+    let most = room c.args.diagram.now c.cells-cells.ensures.diagram c.args.node c.loop-row.row c.rows-row-end.result c.states-states.result c.requires.node c.loop-row-test.true c.rows-row-end.ensures c.states-states.ensures.states in
+    omega arith
+
+pub overflow_add-start : goal.overflow_add-start
+overflow_add-start c =
+    let most = room c.args.diagram.now c.cells-cells.ensures.diagram c.args.node c.loop-row.row c.rows-row-end.result c.states-states.result c.requires.node c.loop-row-test.true c.rows-row-end.ensures c.states-states.ensures.states in
+    omega arith
+
+pub push_reduced_row-requires-clause-room : goal.push_reduced_row-requires-clause-room
+push_reduced_row-requires-clause-room c =
+    let start = c.loop-row.row * c.states-states.result in
+    let most = room c.args.diagram.now c.cells-cells.ensures.diagram c.args.node c.loop-row.row c.rows-row-end.result c.states-states.result c.requires.node c.loop-row-test.true c.rows-row-end.ensures c.states-states.ensures.states in
+    omega (arith, length-take (start + c.states-states.result - start) (drop start c.cells-cells.result.now))
 
 pub push_reduced_row-requires-clause-some : goal.push_reduced_row-requires-clause-some
 push_reduced_row-requires-clause-some c =
