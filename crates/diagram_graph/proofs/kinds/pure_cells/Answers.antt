@@ -5,6 +5,7 @@ use Rattle.std.proofs.lemmas.List.{append-nil, map-append, map_more, take_all}
 use Rattle.maid_model.specs.declared.answers.Row.{Row}
 use Rattle.maid_model.specs.Profiles.{pure_row}
 use Rattle.diagram_graph.specs.Edited.{pure_cells}
+use Rattle.std.proofs.lemmas.Result.{IfOk-from_err}
 use Rattle.diagram_graph.proofs.kinds.pure_cells.Goals as goal
 
 one_more : (states : ℕ) (rows : List Row) (i : ℕ) (x : Row) (old new : List ℤ) → i < length rows → old ≡ pure_cells states (take i rows) → new ≡ old ++ map pos (pure_row states (get_or rows i x).choice) → new ≡ pure_cells states (take (i + 1) rows)
@@ -23,3 +24,9 @@ loop-row-preserved c = one_more c.args.states c.args.rows.now c.loop-row.row-ind
 
 pub returns : goal.returns
 returns c = c.loop-row.invariant ∙ ap (pure_cells c.args.states) (take_all c.loop-row.row-index c.args.rows.now c.loop-row-test.false)
+
+pub returns-in_err-cells : goal.returns-in_err-cells
+returns-in_err-cells c = IfOk-from_err _ _ c.from_residual.ensures.0
+
+pub returns-in_err-push_row : goal.returns-in_err-push_row
+returns-in_err-push_row c = IfOk-from_err _ _ c.from_residual-in_err-push_row.ensures.0

@@ -7,6 +7,7 @@ use Rattle.maid_model.specs.Parts.{place_in, renumbered}
 use Rattle.maid_model.specs.Views.{NodeView}
 use Rattle.diagram_graph.specs.Edited.{with_parents}
 use Rattle.diagram_graph.proofs.Kept.{mapped_same}
+use Rattle.std.proofs.lemmas.Result.{IfOk-from_err}
 use Rattle.diagram_graph.proofs.parts.part_nodes.Goals as goal
 
 pub places-places-requires-clause-small : goal.places-places-requires-clause-small
@@ -43,3 +44,12 @@ loop-v-init c = c.in_ok-nodes.ensures.items
 
 pub returns : goal.returns
 returns c = c.loop-v.invariant ∙ ap (map (λ v. renumbered c.args.kept.now (node_at c.args.diagram.now.nodes v))) (take_all c.loop-v.v-index c.args.kept.now c.loop-v-test.false)
+
+pub returns-in_err-nodes : goal.returns-in_err-nodes
+returns-in_err-nodes c = IfOk-from_err _ _ c.from_residual.ensures.0
+
+pub returns-in_err-renumber : goal.returns-in_err-renumber
+returns-in_err-renumber c = IfOk-from_err _ _ c.from_residual-in_err-renumber.ensures.0
+
+pub returns-in_err-push : goal.returns-in_err-push
+returns-in_err-push c = IfOk-from_err _ _ c.from_residual-in_err-push.ensures.0

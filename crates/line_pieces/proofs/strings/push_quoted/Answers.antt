@@ -2,6 +2,7 @@ use Rattle.std.proofs.Common.{◌+◌, ◌∙◌, [], ◌∷◌, ◌++◌, take,
 use Rattle.std.proofs.lemmas.List.{take_all}
 use Rattle.maid_model.specs.Reports.{escaped}
 use Rattle.line_pieces.proofs.Appending.{piece_more}
+use Rattle.std.proofs.lemmas.Result.{err_from_is_err_and}
 use Rattle.line_pieces.proofs.strings.push_quoted.Goals as goal
 
 pub loop-byte-init : goal.loop-byte-init
@@ -23,3 +24,12 @@ returns c =
     c.in_ok-push-2.ensures.items
     ∙ ap (λ text. text ++ 34 ∷ []) (c.loop-byte.invariant ∙ ap (λ bs. out ++ 34 ∷ flat_map escaped bs) (take_all c.loop-byte.byte-index bytes c.loop-byte-test.false))
     ∙ append_assoc out (34 ∷ flat_map escaped bytes) (34 ∷ [])
+
+pub returns-in_err-push : goal.returns-in_err-push
+returns-in_err-push c = rw (err_from_is_err_and c.from_residual.result c.from_residual.ensures.1).1 tt
+
+pub returns-in_err-push_escaped : goal.returns-in_err-push_escaped
+returns-in_err-push_escaped c = rw (err_from_is_err_and c.from_residual-in_err-push_escaped.result c.from_residual-in_err-push_escaped.ensures.1).1 tt
+
+pub returns-in_err-push-2 : goal.returns-in_err-push-2
+returns-in_err-push-2 c = rw (err_from_is_err_and c.from_residual-in_err-push-2.result c.from_residual-in_err-push-2.ensures.1).1 tt
