@@ -2,6 +2,7 @@ use Rattle.std.proofs.Common.{◌≡◌, ◌∙◌, ℕ, ◌+◌, ◌<◌, List,
 use Rattle.std.proofs.lemmas.List.{drop_more}
 use Rattle.maid_model.specs.Names.{agent_name}
 use Rattle.maid_model.specs.Reports.{quoted}
+use Rattle.std.proofs.lemmas.Result.{err_from_is_err_and}
 use Rattle.net_print.proofs.blocks.push_others.Goals as goal
 
 -- the element whose turn it is, behind those so far
@@ -18,3 +19,9 @@ loop-agent-preserved c =
     let old = c.loop-agent.out.items in
     let shown = c.in_ok-push_quoted.ensures ∙ ap (λ ts. ts ++ quoted c.agent.result.now) c.in_ok-push.ensures.items ∙ append_assoc old (32 ∷ []) (quoted c.agent.result.now) ∙ ap (λ n. old ++ 32 ∷ quoted n) c.agent.ensures in
     next_piece (λ a. 32 ∷ quoted (agent_name c.args.names.now a)) c.args.agents.now c.loop-agent.agent-index old c.push_quoted.new.out.items _ c.loop-agent-test.true shown c.loop-agent.invariant
+
+pub returns-in_err-push : goal.returns-in_err-push
+returns-in_err-push c = rw (err_from_is_err_and c.from_residual.result c.from_residual.ensures.1).1 tt
+
+pub returns-in_err-push_quoted : goal.returns-in_err-push_quoted
+returns-in_err-push_quoted c = rw (err_from_is_err_and c.from_residual-in_err-push_quoted.result c.from_residual-in_err-push_quoted.ensures.1).1 tt

@@ -11,6 +11,7 @@ use Rattle.net_print.specs.Parts.{parted_behind}
 use Rattle.net_print.proofs.Divisors.{divisor_positive}
 use Rattle.net_print.proofs.Rows.{row_positive, row_within, rows_within, rows_more, slice_is_row}
 use Rattle.net_print.proofs.Steps.{parted_first}
+use Rattle.std.proofs.lemmas.Result.{err_from_is_err_and}
 use Rattle.net_print.proofs.potentials.push_rows.Goals as goal
 
 room : (d : DiagramView) → IsDiagram d → (v r rows states : ℕ) → v < length d.nodes → r < rows → rows ≡ rows_of d.nodes v → states ≡ states_of d.nodes v → r * states + states ≤ MOST_CELLS
@@ -67,3 +68,6 @@ returns c =
     ∙ ap (λ n. c.args.out.now.items ++ parted decimal (reduced_rows n c.loop-row.row c.cells-cells.result.now)) c.states-states.ensures.states
     ∙ ap (λ n. c.args.out.now.items ++ parted decimal (reduced_rows (states_of nodes c.args.node) n c.cells-cells.result.now)) all
     ∙ ap (λ cs. c.args.out.now.items ++ parted decimal (reduced_rows (states_of nodes c.args.node) (rows_of nodes c.args.node) cs)) c.cells-cells.ensures.cells
+
+pub returns-in_err-push_reduced_row : goal.returns-in_err-push_reduced_row
+returns-in_err-push_reduced_row c = rw (err_from_is_err_and c.from_residual.result c.from_residual.ensures.1).1 tt
