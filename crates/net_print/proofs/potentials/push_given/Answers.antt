@@ -1,7 +1,6 @@
 use Rattle.std.proofs.Common.{◌<◌, All, length, get_or, subst, sym}
 use Rattle.std.proofs.lemmas.List.Elements.{All-contains_itself}
 use Rattle.maid_model.specs.Nodes.{parents_of}
-use Rattle.std.proofs.lemmas.Result.{err_from_is_err_and}
 use Rattle.net_print.proofs.potentials.push_given.Goals as goal
 
 -- each parent is a node, and so it has a name
@@ -11,6 +10,3 @@ push_names-requires c =
     let named : All (λ v. v < length c.args.names.now.nodes) parents =
     λ k e h. subst (λ n. get_or parents k e < n) (sym c.requires.fit.nodes) (c.parents-parents.ensures.diagram.graph.parents_known (get_or parents k e) c.args.node (All-contains_itself parents k e h)) in
     subst (λ list. All (λ v. v < length c.args.names.now.nodes) list) (sym c.parents-parents.ensures.parents) named
-
-pub returns-in_err-extend_from_slice : goal.returns-in_err-extend_from_slice
-returns-in_err-extend_from_slice c = rw (err_from_is_err_and c.from_residual.result c.from_residual.ensures.1).1 tt
