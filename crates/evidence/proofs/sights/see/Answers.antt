@@ -35,3 +35,15 @@ returns-in_err-nodes-clause-evidence c = IfOk-from_err _ _ c.from_residual.ensur
 
 pub returns-in_err-nodes-clause-seen : goal.returns-in_err-nodes-clause-seen
 returns-in_err-nodes-clause-seen c = IfOk-from_err _ _ c.from_residual.ensures.0
+
+pub returns-in_err-from_nodes-clause-rows : goal.returns-in_err-from_nodes-clause-rows
+returns-in_err-from_nodes-clause-rows c = out_of_memory (sight_pass c.args.diagram.now c.args.node) _ c.from_residual-in_err-from_nodes.ensures
+
+pub returns-in_err-from_nodes-clause-diagram : goal.returns-in_err-from_nodes-clause-diagram
+returns-in_err-from_nodes-clause-diagram c = IfOk-from_err _ _ c.from_residual-in_err-from_nodes.ensures.0
+
+pub returns-in_err-from_nodes-clause-evidence : goal.returns-in_err-from_nodes-clause-evidence
+returns-in_err-from_nodes-clause-evidence c = IfOk-from_err _ _ c.from_residual-in_err-from_nodes.ensures.0
+
+pub returns-in_err-from_nodes-clause-seen : goal.returns-in_err-from_nodes-clause-seen
+returns-in_err-from_nodes-clause-seen c = IfOk-from_err _ _ c.from_residual-in_err-from_nodes.ensures.0

@@ -4,9 +4,10 @@ use Rattle.std.proofs.lemmas.List.{length-map}
 use Rattle.std.specs.Global.{Vec}
 use Rattle.maid_model.specs.Diagrams.{IsDiagram}
 use Rattle.maid_model.specs.Names.{list_of}
+use Rattle.maid_model.specs.Views.{diagram_of}
 use Rattle.net_build.specs.Lists.{numbers_of_lists, cells_of_lists}
 use Rattle.net_build.specs.Stages.{NodeLists, LinkLists, TableLists, made_nodes, made_diagram}
-use Rattle.std.proofs.lemmas.Result.{IfOk-from_err}
+use Rattle.std.proofs.lemmas.Result.{IfOk-from_err, IfOk-weaker}
 use Rattle.net_build.proofs.building.make_diagram.Goals as goal
 
 pub from_nodes-requires : goal.from_nodes-requires
@@ -33,7 +34,7 @@ returns c =
     let agents = count ∙ ap (λ (n : NodeLists). length n.agents) c.nodes.view_is in
     let nodes = c.in_ok-list.ensures ∙ (λ j. made_nodes (heads j) (more j) (parents j) (cells j)) in
     let is : record { nodes = c.in_ok-list.list.items; agents = c.len.result; decimals = c.tables.inside.decimals } ≡ made_diagram c.args.nodes.now c.args.links.now c.args.tables = λ j. record { nodes = nodes j; agents = agents j; decimals = decimals j } in
-    c.from_nodes.ensures ∙ is
+    IfOk-weaker c.from_nodes.result (λ d. d ≡ diagram_of c.in_ok-list.list.items c.len.result c.tables.inside.decimals) (λ d. d ≡ made_diagram c.args.nodes.now c.args.links.now c.args.tables) (λ d e. e ∙ is) c.from_nodes.ensures
 
 pub returns-in_err-list : goal.returns-in_err-list
 returns-in_err-list c = IfOk-from_err _ _ c.from_residual.ensures.0

@@ -7,7 +7,7 @@ use Rattle.requisite_trim.proofs.trimming.trim.Goals as goal
 pub looks-smaller : goal.looks-smaller
 looks-smaller c =
     let first = c.in-Some.ensures in
-    let nodes = ap (λ (d : DiagramView). d.nodes) c.lose_arc-trimmed.ensures in
+    let nodes = ap (λ (d : DiagramView). d.nodes) c.in_ok-trimmed-2.ensures in
     subst (λ ns. arcs_in ns < arcs_in c.looks.trimmed.nodes) (sym nodes) (arcs_fewer c.looks.trimmed.nodes c.in-Some.from c.in-Some.to first.decision first.place first.within first.there)
 
 pub looks-init : goal.looks-init
@@ -22,13 +22,13 @@ looks-init c =
 pub looks-preserved : goal.looks-preserved
 looks-preserved c =
     let first = c.in-Some.ensures in
-    let nodes = ap (λ (d : DiagramView). d.nodes) c.lose_arc-trimmed.ensures in
+    let nodes = ap (λ (d : DiagramView). d.nodes) c.in_ok-trimmed-2.ensures in
     record {
-      leads = subst (λ (l : List (ℕ × ℕ)). Leads c.args.diagram.now.nodes l c.lose_arc-trimmed.result.nodes) (sym c.in_ok-push.ensures.items)
+      leads = subst (λ (l : List (ℕ × ℕ)). Leads c.args.diagram.now.nodes l c.in_ok-trimmed-2.trimmed.nodes) (sym c.in_ok-push.ensures.items)
           (subst (λ ns. Leads c.args.diagram.now.nodes (c.looks.removed.items ++ (c.in-Some.from, c.in-Some.to) ∷ []) ns) (sym nodes)
           (leads_more c.args.diagram.now.nodes c.looks.trimmed.nodes c.looks.removed.items c.in-Some.from c.in-Some.to c.looks.invariant.leads first));
-      agents = ap (λ (d : DiagramView). d.agents) c.lose_arc-trimmed.ensures ∙ c.looks.invariant.agents;
-      decimals = ap (λ (d : DiagramView). d.decimals) c.lose_arc-trimmed.ensures ∙ c.looks.invariant.decimals;
+      agents = ap (λ (d : DiagramView). d.agents) c.in_ok-trimmed-2.ensures ∙ c.looks.invariant.agents;
+      decimals = ap (λ (d : DiagramView). d.decimals) c.in_ok-trimmed-2.ensures ∙ c.looks.invariant.decimals;
     }
 
 pub returns : goal.returns

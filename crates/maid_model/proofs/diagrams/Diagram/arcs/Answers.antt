@@ -1,8 +1,9 @@
-use Rattle.std.proofs.Common.{subst}
+use Rattle.std.proofs.Common.{subst, sym}
 use Rattle.maid_model.specs.Private.{IsIndexed}
 use Rattle.maid_model.proofs.diagrams.Diagram.arcs.Goals as goal
 
 pub returns : goal.returns
 returns c =
-    let is : IsIndexed c.args.self.now c.self.inside.index = subst (λ d. IsIndexed d c.self.inside.index) c.self.view_is c.self.invariant in
+    let kept : IsIndexed c.args.self.now c.self.inside.index.value = subst (λ d. IsIndexed d c.self.inside.index.value) c.self.view_is c.self.invariant in
+    let is : IsIndexed c.args.self.now c.deref.result.now = subst (IsIndexed c.args.self.now) (sym c.deref.ensures) kept in
     record { parents = is.nodes.parents; children = is.nodes.children; diagram = is.diagram }
