@@ -1,7 +1,7 @@
 -- Greatest common divisors by halving, and the fractions that they leave.
 use Rattle.std.proofs.Common.{◌≡◌, ◌∙◌, ℕ, zero, suc, ◌+◌, ◌*◌, ◌/◌, ◌%◌, ◌^◌, ◌-◌, ◌<◌, ◌≤◌, min, Bool, true, false, ltb, if◌then◌else◌, ℤ, pos, negsuc, neg_ℤ, ◌*ℤ◌, unsigned_abs, refl, sym, ap, subst, arith}
 use Rattle.std.specs.Int.{IsGcd, ◌∣◌, bit_at}
-use Rattle.std.proofs.Math.Nat.{dvd-add_iff_right, dvd-mul_left_of_dvd, mul-div_cancel}
+use Rattle.std.proofs.Math.Nat.{dvd-add_iff_right, dvd-mul_left, dvd-mul_left_of_dvd, mul-div_cancel}
 use Rattle.std.specs.Int.Signed.{lt_z}
 use Rattle.std.proofs.lemmas.Bool.{ltb-true}
 use Rattle.std.proofs.Math.Nat.{min-eq_left, min-eq_right}
@@ -50,7 +50,7 @@ shift_gcd (suc k) a b g odd none is =
     half_gcd a b g odd so.0 (shift_gcd k a (b / 2) g odd so.1 (subst (λ z. IsGcd a z g) (shift_more b k) is))
 
 -- a shift that drops zeros is undone by a product
-pub shift_back : (k n : ℕ) → ((i : ℕ) → i < k → bit_at n i ≡ 0) → n / 2 ^ k * 2 ^ k ≡ n
+shift_back : (k n : ℕ) → ((i : ℕ) → i < k → bit_at n i ≡ 0) → n / 2 ^ k * 2 ^ k ≡ n
 shift_back zero n none = omega arith
 shift_back (suc k) n none =
     let so = halves k n none in
@@ -61,20 +61,9 @@ shift_back (suc k) n none =
     one : (k : ℕ) → suc k ≡ 1 + k
     one k = omega arith
 
--- the halves of both numbers make the same fraction
-pub shifted_across : (n d t : ℕ) → ((i : ℕ) → i < t → bit_at n i ≡ 0) → ((i : ℕ) → i < t → bit_at d i ≡ 0) → n / 2 ^ t * d ≡ n * (d / 2 ^ t)
-shifted_across n d t none none' = ap (λ z. n / 2 ^ t * z) (sym (shift_back t d none')) ∙ regroup (n / 2 ^ t) (d / 2 ^ t) (2 ^ t) ∙ ap (λ z. z * (d / 2 ^ t)) (shift_back t n none)
-  where
-    regroup : (x y p : ℕ) → x * (y * p) ≡ (x * p) * y
-    regroup x y p = omega arith
-
--- those of a positive number are positive
-pub shifted_positive : (d t : ℕ) → 0 < d → ((i : ℕ) → i < t → bit_at d i ≡ 0) → 0 < d / 2 ^ t
-shifted_positive d t h none = go (d / 2 ^ t) (shift_back t d none)
-  where
-    go : (y : ℕ) → y * 2 ^ t ≡ d → 0 < y
-    go zero e = absurd (omega (arith, e, h))
-    go (suc y) e = omega arith
+-- so the power divides the number
+pub shift_divides : (k n : ℕ) → ((i : ℕ) → i < k → bit_at n i ≡ 0) → 2 ^ k ∣ n
+shift_divides k n none = subst (λ z. 2 ^ k ∣ z) (shift_back k n none) (dvd-mul_left (2 ^ k) (n / 2 ^ k))
 
 -- one step goes on with the lesser number and the difference
 pub step_gcd : (a c g : ℕ) → IsGcd (min a c) (a - c + (c - a)) g → IsGcd a c g

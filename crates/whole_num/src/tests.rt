@@ -14,6 +14,12 @@ fn fractions_are_reduced(rt: HostRuntime) {
 fn divisors_and_multiples(rt: HostRuntime) {
     assert_eq!(rt; gcd(0, 0), 0);
     assert_eq!(rt; gcd(0, 6), 6);
+    assert_eq!(rt; gcd(12, 18), 6);
+    assert_eq!(rt; gcd(9, 28), 1);
+    // Beyond 64 bits: both numbers, one of them, and one of them beside nought.
+    assert_eq!(rt; gcd(12 << 64, 18 << 64), 6 << 64);
+    assert_eq!(rt; gcd(48, 1 << 100), 16);
+    assert_eq!(rt; gcd(1 << 100, 0), 1 << 100);
     assert_eq!(rt; lcm_within(4, 6, 12), Some(12));
     assert_eq!(rt; lcm_within(4, 6, 11), None);
 }

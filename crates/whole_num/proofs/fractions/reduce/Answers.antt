@@ -1,4 +1,4 @@
-use Rattle.std.proofs.Common.{rules, FitsSigned, arith, ◌*◌, ◌∙◌, ap, sym, subst}
+use Rattle.std.proofs.Common.{rules, FitsSigned, ◌*◌, ◌∙◌, ap, sym, subst}
 use Rattle.std.specs.Int.{w128, IsGcd}
 use Rattle.std.proofs.lemmas.Int.{to_z-of_z, fits_signed_from_abs}
 use Rattle.whole_num.proofs.Halves.{signed_same, signed_size}

@@ -1,45 +1,8 @@
-use Rattle.std.proofs.Common.{rules, arith, ◌≡◌, ◌<◌, ◌≤◌, ◌^◌, ◌⊎◌, ◌/◌, ◌%◌, ℕ, inl, inr, min, sym, subst, ◌∙◌}
-use Rattle.std.specs.Int.{bit_at, w64}
-use Rattle.std.proofs.Math.Nat.{min-eq_left, min-eq_right, min-le_left, min-le_right}
-use Rattle.std.proofs.Math.Decide.{dec_le}
-use Rattle.std.proofs.lemmas.Nat.Bits.{bit_at-trailing_zeros}
-use Rattle.whole_num.proofs.Halves.{shifted_across, shifted_positive}
+use Rattle.whole_num.proofs.Multiples.{cross, quotient_positive}
 use Rattle.whole_num.proofs.halving.without_twos.Goals as goal
 
--- below the lesser of two places the digits are those below each
-below_min : (n t x y : ℕ) → t ≡ min x y → ((i : ℕ) → i < x → bit_at n i ≡ 0) → (i : ℕ) → i < t → bit_at n i ≡ 0
-below_min n t x y e none i h = none i (omega (arith, h, e, min-le_left x y))
-
-below_min' : (n t x y : ℕ) → t ≡ min x y → ((i : ℕ) → i < y → bit_at n i ≡ 0) → (i : ℕ) → i < t → bit_at n i ≡ 0
-below_min' n t x y e none i h = none i (omega (arith, h, e, min-le_right x y))
-
--- at the lesser place one of the numbers has its lowest 1
-one_there : (n m t x y : ℕ) → t ≡ min x y → bit_at n x ≡ 1 → bit_at m y ≡ 1 → (n / 2 ^ t % 2 ≡ 1) ⊎ (m / 2 ^ t % 2 ≡ 1)
-one_there n m t x y e i j = go (dec_le x y)
-  where
-    go : Dec (x ≤ y) → (n / 2 ^ t % 2 ≡ 1) ⊎ (m / 2 ^ t % 2 ≡ 1)
-    go (yes l) = inl (subst (λ k. n / 2 ^ k % 2 ≡ 1) (sym (e ∙ min-eq_left l)) i)
-    go (no k) = inr (subst (λ k. m / 2 ^ k % 2 ≡ 1) (sym (e ∙ min-eq_right (less k))) j)
-      where
-        less : ¬ (x ≤ y) → y ≤ x
-        less k = omega arith
-
 pub returns-clause-same : goal.returns-clause-same
-returns-clause-same c =
-    let n = c.args.num in
-    let d = c.args.den in
-    let low = bit_at-trailing_zeros w64 n c.requires.num (search rules) in
-    let low_d = bit_at-trailing_zeros w64 d c.requires.den (search rules) in
-    shifted_across n d c.min-twos.result (below_min n c.min-twos.result _ _ c.min-twos.ensures low.2) (below_min' d c.min-twos.result _ _ c.min-twos.ensures low_d.2)
-
-pub returns-clause-odd : goal.returns-clause-odd
-returns-clause-odd c =
-    let low = bit_at-trailing_zeros w64 c.args.num c.requires.num (search rules) in
-    let low_d = bit_at-trailing_zeros w64 c.args.den c.requires.den (search rules) in
-    one_there c.args.num c.args.den c.min-twos.result _ _ c.min-twos.ensures low.1 low_d.1
+returns-clause-same c = cross c.args.num c.args.den _ c.common_twos-twos.ensures.in_a c.common_twos-twos.ensures.in_b
 
 pub returns-clause-positive : goal.returns-clause-positive
-returns-clause-positive c =
-    let d = c.args.den in
-    let low_d = bit_at-trailing_zeros w64 d c.requires.den (search rules) in
-    shifted_positive d c.min-twos.result c.requires.den (below_min' d c.min-twos.result _ _ c.min-twos.ensures low_d.2)
+returns-clause-positive c = quotient_positive c.args.den _ c.requires.den c.common_twos-twos.ensures.in_b
