@@ -21,6 +21,10 @@ pub(crate) fn gcd_with_product(a: u128, size: u128, tens: u128) -> u128
         return 1;
     }
     let common = gcd(a, size);
+    // Most numbers take no tens, and one greatest common divisor is enough.
+    if tens == 1 {
+        return common;
+    }
     common * gcd(a / common, tens)
 }
 
@@ -32,6 +36,10 @@ pub(crate) fn divided_product(size: u128, tens: u128, divisor: u128) -> Option<u
 {
     if divisor == 1 {
         return mul_within(size, tens, GREATEST_NUMBER);
+    }
+    // Most numbers take no tens: the divisor is in the size, and one division is enough.
+    if tens == 1 {
+        return Some(size / divisor).filter(|quotient| *quotient <= GREATEST_NUMBER);
     }
     let common = gcd(size, divisor);
     mul_within(size / common, tens / (divisor / common), GREATEST_NUMBER)

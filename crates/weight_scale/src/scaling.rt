@@ -1,9 +1,10 @@
 //! Chance rows taken in proportion.
 
-ghost use Rattle.std.specs.Prelude.{◌≡◌, ◌<◌, ◌≤◌, ◌/◌, IfOk, IfErr, IfSome, IfNone, length};
+ghost use Rattle.std.specs.Prelude.{◌≡◌, ◌<◌, ◌≤◌, ◌/◌, ℕ, IfOk, IfErr, IfSome, IfNone, length};
 ghost use Rattle.std.specs.Int.{◌∣◌};
 ghost use Rattle.maid_model.specs.Diagrams.{greatest_number};
 ghost use Rattle.maid_model.specs.Tables.{IsTable};
+ghost use Rattle.whole_num.specs.Divisors.{IsLcm};
 ghost use Rattle.weight_scale.specs.Scaling.{row_at, IsFirstNegative, NoneNegative, IsFirstZeroRow, NoZeroRow, IsTooWide, IsScaled, IsScaleFault, AreFaultless};
 ghost use Rattle.weight_scale.specs.Rows.{HasPositiveTotals, IsMultipleOfTotals, ReducesAll, WeighsAll, OnWide};
 
@@ -100,6 +101,21 @@ fn first_zero_row(rows: &[Decimal], states: usize) -> Option<usize>
     None
 }
 
+// The least common multiple of the common total so far and one more row's, if it isn't too great.
+fn common_total(total: u128, added: u128) -> Option<u128>
+    requires total { 0 < total }
+    requires added { 0 < added }
+    requires small { total ≤ greatest_number }
+    ensures some { IfSome result (λ l. IsLcm total added l × (0 < l) × (l ≤ greatest_number)) }
+    ensures none { IfNone result ((l : ℕ) × IsLcm total added l × (greatest_number < l)) }
+{
+    // Most rows have the total of the rows before, and a row of one number above nought has 1.
+    if added == total || added == 1 {
+        return Some(total);
+    }
+    lcm_within(total, added, GREATEST_NUMBER)
+}
+
 fn reduce_rows(alloc: Global, rows: &[Decimal], states: usize) -> Result<Reduced, ScaleFault>
     requires states { 0 < states }
     requires positive { NoZeroRow rows.now states (length rows.now / states) }
@@ -112,7 +128,7 @@ fn reduce_rows(alloc: Global, rows: &[Decimal], states: usize) -> Result<Reduced
     let mut total = 1;
     for r in 0..rows.len() / states {
         let added = push_reduced(&mut numbers, row_at(rows, states, r))?;
-        let Some(common) = lcm_within(total, added, GREATEST_NUMBER) else {
+        let Some(common) = common_total(total, added) else {
             return Err(ScaleFault::WideWeight);
         };
         total = common;
@@ -149,7 +165,7 @@ fn weigh_rows(
 ///
 /// Refused are, in this order, a number below nought, a row of total nought, and a common total
 /// greater than 2^126 - 1; and want of memory, at any point. The cost is linear in the count of
-/// numbers, with three greatest common divisors a number.
+/// numbers, with at most three greatest common divisors a number.
 pub fn scale_rows(alloc: Global, rows: &[Decimal], states: usize) -> Result<Scaled, ScaleFault>
     requires states { 0 < states }
     requires whole { states ∣ length rows.now }

@@ -18,8 +18,8 @@ returns-in_err-added-clause-err c =
     let answer = err_from_is_err_and c.from_residual-in_err-added.result c.from_residual-in_err-added.ensures.1 in
     rw (answer.1, answer.2) (on_wide_more (IsWideRow (raised_row c.args.states c.args.rows.now c.loop-r.r)) (IsTooWide c.args.rows.now c.args.states) (wide_by_row c.args.rows.now c.args.states c.requires.states c.requires.positive c.requires.whole c.loop-r.r c.loop-r-test.true) _ wide)
 
-pub lcm_within-requires-clause-b_positive : goal.lcm_within-requires-clause-b_positive
-lcm_within-requires-clause-b_positive c =
+pub common_total-requires-clause-added : goal.common_total-requires-clause-added
+common_total-requires-clause-added c =
     let appends = rw c.row_at.ensures.row at c.in_ok-added.ensures.ok in
     added_positive c.args.rows.now c.args.states c.requires.states c.loop-r.r c.loop-r.numbers.items c.push_reduced.new.reduced.items c.in_ok-added.added c.requires.positive c.loop-r-test.true appends
 
