@@ -4,7 +4,8 @@ ghost use Rattle.std.specs.Prelude.{◌≡◌, IfOk};
 ghost use Rattle.graph_tests.specs.Edits.{example, answer_of, answers};
 
 use diagram_graph::{
-    AddFault, MakeFault, RemoveFault, add_arc, fix_others, make_decision, part, remove_arc,
+    AddFault, MakeFault, RemoveFault, add_arc, fix_others, lose_arc, make_decision, part,
+    remove_arc,
 };
 use maid_model::{Answer, Diagram, Kind, Row, Solved};
 use sample_diagrams::{chance, decision, sample_diagram, utility};
@@ -45,6 +46,19 @@ fn is_cut(alloc: Global) -> Result<bool, RemoveFault> {
 #[test]
 fn removes_an_arc_and_takes_a_part(rt: HostRuntime) -> Result<(), Fail> {
     assert!(rt; is_cut(rt.alloc())?);
+    Ok(())
+}
+
+/// Whether the arc from the first node is gone once it is taken out of the diagram, and the other one is there.
+fn is_lost(alloc: Global) -> Result<bool, AllocError> {
+    let whole = diagram(alloc)?;
+    let less = lose_arc(alloc, whole, 0, 2)?;
+    Ok(less.count() == 5 && less.parents(2) == [1].as_slice())
+}
+
+#[test]
+fn takes_an_arc_out(rt: HostRuntime) -> Result<(), Fail> {
+    assert!(rt; is_lost(rt.alloc())?);
     Ok(())
 }
 
