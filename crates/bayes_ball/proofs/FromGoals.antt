@@ -9,7 +9,8 @@ use Rattle.maid_model.specs.Walks.{IsActive, IsReached, WithArc, WithNode}
 use Rattle.node_sets.specs.declared.sets.NodeSet.{NodeSet}
 use Rattle.node_sets.specs.Sets.{IsIn}
 use Rattle.bayes_ball.specs.declared.marks.Marks.{Marks}
-use Rattle.bayes_ball.specs.Search.{TellsReachFromAny, TellsWalksToGoals}
+use Rattle.bayes_ball.specs.Search.{ReachesGoal, TellsReachFromAny, TellsWalksToGoals}
+use Rattle.bayes_ball.proofs.Searching.{same_fact}
 use Rattle.bayes_ball.proofs.Turning.{reached_turn}
 
 -- active walks given one set of nodes are active walks given any other with the same members
@@ -32,29 +33,27 @@ goal_free nodes d u graph decision goal (inr arc) = graph.no_utility_parent u d 
 pub goal_live : (nodes : List NodeView) (d u : ℕ) → IsGoal nodes d u → IsLive nodes u
 goal_live nodes d u goal = record { within = goal.within; states = inl goal.kind }
 
--- a search from all goals, given the family, tells which walks lead to a goal
-pub search_tells : (nodes : List NodeView) (d : ℕ) (starts given : NodeSet) (marks : Marks) → ((v : ℕ) → IsIn starts v ↔ IsGoal nodes d v) → ((v : ℕ) → IsIn given v ↔ IsInFamily (Arc nodes) d v) →
-    TellsReachFromAny nodes given starts marks → TellsWalksToGoals nodes d marks
-search_tells nodes d starts given marks goals fixed search = record {
-  reached = λ v within.
-      let told = search.reached v within in (
-        (λ m. let h = told.0 m in (h.0, (goals h.0).0 h.1, there (Arc nodes) (IsLive nodes) v h.0 (turn h.0 v h.2))),
-        (λ h. told.1 (h.0, (goals h.0).1 h.1, turn v h.0 (back (Arc nodes) (IsLive nodes) v h.0 h.2))),
-      );
-  parents = λ v within.
-      let told = search.parents v within in
-      let A = WithArc (Arc nodes) (length nodes) v in
-      let L = WithNode (IsLive nodes) (length nodes) in (
-        (λ m. let h = told.0 m in (h.0, (goals h.0).0 h.1, there A L (length nodes) h.0 h.2)),
-        (λ h. told.1 (h.0, (goals h.0).1 h.1, back A L (length nodes) h.0 h.2)),
-      );
-}
+-- walks from the goals to v, given the family, are walks from v to a goal
+pub walks_to_goals : (nodes : List NodeView) (d : ℕ) (given : NodeSet) (Start : ℕ → Type 0) → ((v : ℕ) → Start v ↔ IsGoal nodes d v) → ((v : ℕ) → IsIn given v ↔ IsInFamily (Arc nodes) d v) →
+    (v : ℕ) → ((u : ℕ) × Start u × IsReached (Arc nodes) (IsLive nodes) (IsIn given) u v) ↔ ReachesGoal nodes d v
+walks_to_goals nodes d given Start goals fixed v = (
+  (λ h. (h.0, (goals h.0).0 h.1, reached_same (Arc nodes) (IsLive nodes) (IsIn given) (IsInFamily (Arc nodes) d) fixed v h.0 (turn h.0 v h.2))),
+  (λ h. (h.0, (goals h.0).1 h.1, turn v h.0 (reached_same (Arc nodes) (IsLive nodes) (IsInFamily (Arc nodes) d) (IsIn given) (λ x. ((fixed x).1, (fixed x).0)) v h.0 h.2))),
+)
   where
     turn : (from to : ℕ) → IsReached (Arc nodes) (IsLive nodes) (IsIn given) from to → IsReached (Arc nodes) (IsLive nodes) (IsIn given) to from
     turn = reached_turn (Arc nodes) (IsLive nodes) (IsIn given)
 
-    there : (A : ℕ → ℕ → Type 0) (L : ℕ → Type 0) (from to : ℕ) → IsReached A L (IsIn given) from to → IsReached A L (IsInFamily (Arc nodes) d) from to
-    there A L = reached_same A L (IsIn given) (IsInFamily (Arc nodes) d) fixed
-
-    back : (A : ℕ → ℕ → Type 0) (L : ℕ → Type 0) (from to : ℕ) → IsReached A L (IsInFamily (Arc nodes) d) from to → IsReached A L (IsIn given) from to
-    back A L = reached_same A L (IsInFamily (Arc nodes) d) (IsIn given) (λ x. ((fixed x).1, (fixed x).0))
+-- a search from all goals, given the family, tells which walks lead to a goal
+pub search_tells : (nodes : List NodeView) (d : ℕ) (starts given : NodeSet) (marks : Marks) → ((v : ℕ) → IsIn starts v ↔ IsGoal nodes d v) → ((v : ℕ) → IsIn given v ↔ IsInFamily (Arc nodes) d v) →
+    TellsReachFromAny nodes given starts marks → TellsWalksToGoals nodes d marks
+search_tells nodes d starts given marks goals fixed search = record {
+  reached = λ v within. same_fact (search.reached v within) (walks_to_goals nodes d given (IsIn starts) goals fixed v);
+  parents = λ v within.
+      let told = search.parents v within in
+      let A = WithArc (Arc nodes) (length nodes) v in
+      let L = WithNode (IsLive nodes) (length nodes) in (
+        (λ m. let h = told.0 m in (h.0, (goals h.0).0 h.1, reached_same A L (IsIn given) (IsInFamily (Arc nodes) d) fixed (length nodes) h.0 h.2)),
+        (λ h. told.1 (h.0, (goals h.0).1 h.1, reached_same A L (IsInFamily (Arc nodes) d) (IsIn given) (λ x. ((fixed x).1, (fixed x).0)) (length nodes) h.0 h.2)),
+      );
+}

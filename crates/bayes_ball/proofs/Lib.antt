@@ -3,3 +3,4 @@ pub mod Turning
 pub mod Walking
 pub mod Searching
 pub mod FromGoals
+pub mod Finding

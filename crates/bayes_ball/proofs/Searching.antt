@@ -42,6 +42,14 @@ flows_start s (Forward a n f) = Forward a n (flows_start s f)
 flows_start s (Back a n f) = Back a n (flows_start s f)
 flows_start s (Bounce a g f) = Bounce a g (flows_start s f)
 
+-- from a node of the set an active walk leads to each mark that spreads from there
+pub flows_reached : (nodes : List NodeView) (given : NodeSet) (Start : ℕ → Type 0) → IsGraph nodes → ((a : ℕ) → Start a → IsLive nodes a) →
+    (w : Way) (v : ℕ) → Flows (LiveArc nodes) (IsIn given) (FromNodes Start) w v → (u : ℕ) × Start u × IsReached (Arc nodes) (IsLive nodes) (IsIn given) u v
+flows_reached nodes given Start graph live w v flows =
+    let f = one_way (Arc nodes) graph.acyclic in
+    let r = walk_reached (Arc nodes) (IsLive nodes) (IsIn given) f Start w v (flows_walk (Arc nodes) (IsLive nodes) (IsIn given) f Start live w v flows) in
+    (r.0, r.1, reached_turn (Arc nodes) (IsLive nodes) (IsIn given) v r.0 r.2)
+
 swap_marks : {A B : Type 0} → A ⊎ B → B ⊎ A
 swap_marks (inl a) = inr a
 swap_marks (inr b) = inl b
@@ -81,10 +89,7 @@ module _ (nodes : List NodeView) (given : NodeSet) (Start : ℕ → Type 0) (dow
   start_live a s = h.live Up a (refl, s)
 
   ways : (w : Way) (v : ℕ) → IsMarked down up w v → (u : ℕ) × Start u × IsReached (Arc nodes) (IsLive nodes) (IsIn given) u v
-  ways w v m =
-      let f = arcs_one_way nodes given (FromNodes Start) down up h in
-      let r = walk_reached (Arc nodes) (IsLive nodes) (IsIn given) f Start w v (flows_walk (Arc nodes) (IsLive nodes) (IsIn given) f Start start_live w v (h.sound w v m)) in
-      (r.0, r.1, reached_turn (Arc nodes) (IsLive nodes) (IsIn given) v r.0 r.2)
+  ways w v m = flows_reached nodes given Start h.graph start_live w v (h.sound w v m)
 
   pub reached_from_any : (v : ℕ) → (IsIn down v ⊎ IsIn up v) ↔ ((u : ℕ) × Start u × IsReached (Arc nodes) (IsLive nodes) (IsIn given) u v)
   reached_from_any v = (

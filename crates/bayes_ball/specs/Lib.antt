@@ -1,3 +1,4 @@
 pub mod Search
 pub mod Flow
 pub mod Spread
+pub mod Finding

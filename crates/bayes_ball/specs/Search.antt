@@ -57,12 +57,19 @@ pub record TellsReachFromAny (nodes : List NodeView) (given starts : NodeSet) (m
   pub reached : AreReachedFromAny nodes given starts marks.reached
   pub parents : AreParentsReachedFromAny nodes given starts marks.parents_reached
 
+-- given d and its parents, an active walk leads from v to a goal of d
+abbrev pub ReachesGoal : List NodeView → ℕ → ℕ → Type 0
+ReachesGoal nodes d v = (goal : ℕ) × IsGoal nodes d goal
+    × IsReached (Arc nodes) (IsLive nodes) (IsInFamily (Arc nodes) d) v goal
+
+-- so it is with each node of the set
+abbrev pub AllReachGoals : List NodeView → ℕ → NodeSet → Type 0
+AllReachGoals nodes d set = (v : ℕ) → IsIn set v → ReachesGoal nodes d v
+
 -- what the marks of a search from the goals of d tell: from which nodes, and from which nodes' extra parents, an active
 -- walk leads to a goal of d given d and its parents
 pub record TellsWalksToGoals (nodes : List NodeView) (d : ℕ) (marks : Marks) : Type 0 where
-  pub reached : (v : ℕ) → v < length nodes
-      → IsIn marks.reached v ↔ ((goal : ℕ) × IsGoal nodes d goal
-      × IsReached (Arc nodes) (IsLive nodes) (IsInFamily (Arc nodes) d) v goal)
+  pub reached : (v : ℕ) → v < length nodes → IsIn marks.reached v ↔ ReachesGoal nodes d v
   pub parents : (v : ℕ) → v < length nodes
       → IsIn marks.parents_reached v ↔ ((goal : ℕ) × IsGoal nodes d goal
       × IsReachedFromParent (Arc nodes) (IsLive nodes) (IsInFamily (Arc nodes) d) (length nodes) v

@@ -48,9 +48,13 @@ abbrev pub AreFresh : List NodeView → NodeSet → NodeSet → NodeSet → Type
 AreFresh nodes leading followed fresh =
     (v : ℕ) → IsIn fresh v ↔ (IsIn leading v × IsLive nodes v × (IsIn followed v → ⊥))
 
+-- arcs were followed from the followed nodes: all to which they lead are among the marked ones
+abbrev pub HandOn : (ℕ → ℕ → Type 0) → NodeSet → NodeSet → Type 0
+HandOn Arc followed marked = (p v : ℕ) → IsIn followed p → Arc p v → IsIn marked v
+
 -- arcs were followed down from the followed nodes: each of their live children has the mark
 abbrev pub HandDown : List NodeView → NodeSet → NodeSet → Type 0
-HandDown nodes followed down = (p v : ℕ) → IsIn followed p → LiveArc nodes p v → IsIn down v
+HandDown nodes followed down = HandOn (LiveArc nodes) followed down
 
 -- arcs were followed up from the followed nodes: each of their live parents has the mark
 abbrev pub HandUp : List NodeView → NodeSet → NodeSet → Type 0

@@ -13,7 +13,7 @@ use maid_model::{Diagram, goals_of};
 use node_sets::NodeSet;
 
 /// The decision and its parents, none of which is a utility.
-fn family_of(diagram: &Diagram, decision: usize) -> NodeSet
+pub(crate) fn family_of(diagram: &Diagram, decision: usize) -> NodeSet
     requires { IsDecision diagram.now.nodes decision }
     ensures family { (v : ℕ) → IsIn result v ↔ IsInFamily (Arc diagram.now.nodes) decision v }
     ensures known { (v : ℕ) → IsIn result v → v < length diagram.now.nodes }

@@ -5,9 +5,11 @@
 
 mod goals;
 mod marks;
+mod nearing;
 mod search;
 mod waves;
 
 pub use goals::reach_from_goals;
 pub use marks::Marks;
+pub use nearing::all_reach_goals;
 pub use search::{Start, reach, reach_from_any};

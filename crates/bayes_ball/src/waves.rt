@@ -32,7 +32,7 @@ fn fresh_of(diagram: &Diagram, leading: &NodeSet, followed: &NodeSet) -> NodeSet
 }
 
 /// Goes on down from the live nodes that lead down and have not been followed down, and says whether there are any.
-fn go_down(
+pub(crate) fn go_down(
     diagram: &Diagram,
     given: &NodeSet,
     down: &mut NodeSet,
@@ -53,7 +53,7 @@ fn go_down(
 }
 
 /// Goes on up from the live nodes that lead up and have not been followed up, and says whether there are any.
-fn go_up(
+pub(crate) fn go_up(
     diagram: &Diagram,
     given: &NodeSet,
     down: &NodeSet,

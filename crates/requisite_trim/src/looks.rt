@@ -4,16 +4,20 @@ ghost use Rattle.std.specs.Prelude.{◌<◌, length};
 ghost use Rattle.maid_model.specs.Nodes.{IsDecision};
 ghost use Rattle.requisite_trim.specs.Steps.{TellsFirstUnneeded, TellsFirstUnneededAt, TellsNextArc};
 
-use bayes_ball::reach_from_goals;
+use bayes_ball::{all_reach_goals, reach_from_goals};
 use maid_model::Diagram;
 
-/// The first parent of the decision that is not requisite. It searches once for all parents, and not at all where there
-/// is none.
+/// The first parent of the decision that is not requisite. It searches from all goals only where there is one, and not at
+/// all where there are no parents.
 fn first_unneeded(diagram: &Diagram, decision: usize) -> Option<usize>
     requires { IsDecision diagram.now.nodes decision }
     ensures { TellsFirstUnneeded diagram.now.nodes decision result }
 {
     if diagram.parents(decision).is_empty() {
+        return None;
+    }
+    // mostly each parent is requisite, which the nearest goals show
+    if all_reach_goals(diagram, decision, &diagram.arcs().parents(decision)) {
         return None;
     }
     let marks = reach_from_goals(diagram, decision);

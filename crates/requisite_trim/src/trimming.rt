@@ -22,7 +22,8 @@ pub struct Trimmed {
 /// keeps may go at a later one. Where one agent owns all decisions, the trimmed diagram has the same optimum, also where
 /// decisions rely on one another in a cycle.
 ///
-/// A look searches once for each decision, which looks at each node a few times: decisions times nodes for each removed
+/// A look searches once for each decision, and once more for the one whose arc goes. A search looks at each node a few
+/// times at worst, and mostly ends early where all parents are requisite: at worst decisions times nodes for each removed
 /// arc. The diagram is copied once.
 ///
 /// # Errors

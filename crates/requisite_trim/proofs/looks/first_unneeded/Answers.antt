@@ -3,13 +3,21 @@ use Rattle.std.proofs.lemmas.Bool.{false≢true}
 use Rattle.std.proofs.lemmas.List.Elements.{Contains-get_or}
 use Rattle.maid_model.specs.Relevance.{IsRequisite}
 use Rattle.requisite_trim.proofs.Looking.{below_more, first_at, all_seen}
-use Rattle.requisite_trim.proofs.Requisites.{requisites_told}
+use Rattle.requisite_trim.proofs.Requisites.{goal_reached, requisites_told}
 use Rattle.requisite_trim.proofs.looks.first_unneeded.Goals as goal
 
 pub returns-then-is_empty : goal.returns-then-is_empty
 returns-then-is_empty c =
     let none : length c.parents.result.now ≡ 0 = eqb-true (length c.parents.result.now) 0 (sym c.is_empty.ensures ∙ c.if-is_empty.true) in
     all_seen c.args.diagram.now.nodes c.args.decision c.parents.result.now c.parents.ensures.parents 0 (omega (arith, none)) (λ k l. absurd (omega (arith, l)))
+
+pub parents-requires-2 : goal.parents-requires-2
+parents-requires-2 c = let l = c.requires.within in let m = c.arcs.ensures.diagram.limits.nodes in omega (arith, l, m)
+
+pub returns-then-all_reach_goals : goal.returns-then-all_reach_goals
+returns-then-all_reach_goals c x arc =
+    let seen = (c.parents-2.ensures x).1 ((c.arcs.ensures.parents x c.args.decision).1 arc) in
+    (goal_reached c.args.diagram.now.nodes c.args.decision x).0 (c.all_reach_goals.ensures.0 c.if-all_reach_goals.true x seen)
 
 pub reached-requires : goal.reached-requires
 reached-requires c =
