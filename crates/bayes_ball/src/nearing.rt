@@ -75,7 +75,7 @@ pub fn all_reach_goals(diagram: &Diagram, decision: usize, nodes: &NodeSet) -> b
     let mut followed_down = NodeSet::empty();
     let mut followed_up = NodeSet::empty();
     'waves: while !are_all_marked(nodes, &down, &up) {
-        // no step waits for another to end: walks spread while goals are still looked for
+        // No step waits for another to end: walks spread while goals are still looked for.
         let went = find_goals(diagram, agent, &mut below, &mut followed, &mut up)
             | go_down(diagram, &family, &mut down, &up, &mut followed_down)
             | go_up(diagram, &family, &down, &mut up, &mut followed_up);

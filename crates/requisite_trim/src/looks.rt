@@ -16,7 +16,7 @@ fn first_unneeded(diagram: &Diagram, decision: usize) -> Option<usize>
     if diagram.parents(decision).is_empty() {
         return None;
     }
-    // mostly each parent is requisite, which the nearest goals show
+    // Mostly each parent is requisite, which the nearest goals show.
     if all_reach_goals(diagram, decision, &diagram.arcs().parents(decision)) {
         return None;
     }
