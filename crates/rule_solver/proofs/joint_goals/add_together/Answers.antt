@@ -1,5 +1,6 @@
 -- Some of the goals, and then some of the others.
-use Rattle.std.proofs.Common.{◌≡◌, ◌∙◌, ℕ, ◌*◌, ◌≤◌, ◌-◌, ◌<◌, Contains, List, length, take, drop, sym, ap, subst, arith, nat_abs, length-drop, refl}
+use Rattle.std.proofs.Common.{◌≡◌, ◌∙◌, ℕ, ℤ, ◌*◌, ◌≤◌, ◌-◌, ◌<◌, Contains, List, [], length, take, drop, sym, ap, subst, arith, nat_abs, length-drop, refl}
+use Rattle.std.proofs.lemmas.List.{append-nil}
 use Rattle.finite_sums.specs.Members.{Among}
 use Rattle.finite_sums.specs.Sums.{World, InRange}
 use Rattle.finite_sums.proofs.Members.{contains_from_among}
@@ -8,6 +9,7 @@ use Rattle.maid_model.specs.Gains.{greatest_abs}
 use Rattle.maid_model.specs.Nodes.{node_at, states_of}
 use Rattle.maid_model.specs.Relevance.{IsGoal}
 use Rattle.maid_model.specs.Scopes.{goals_of, scope_product}
+use Rattle.maid_model.specs.Views.{NodeView, RuleView}
 use Rattle.rule_solver.specs.Rooms.{IsEmptyWithin}
 use Rattle.rule_solver.specs.Sums.{AddsGoals, HasGoals, HasRoomForGoals, goal_part}
 use Rattle.size_precheck.specs.Sizes.{SizedPlan}
@@ -17,6 +19,12 @@ use Rattle.rule_solver.proofs.JointLists.{all_goals, first_in, other_in, other_g
 use Rattle.rule_solver.proofs.SettingLemmas.{part_small}
 use Rattle.rule_solver.proofs.SumLemmas.{goals_more, room_for, take_then}
 use Rattle.rule_solver.proofs.joint_goals.add_together.Goals as goal
+use Rattle.rule_solver.proofs.joint_goals.add_together.Goals.{else-parts-test, then-parts-test+in_ok-added+then-added-eq0}
+
+none_more : (nodes : List NodeView) (p : List RuleView) (d n : ℕ) (us list : List ℕ) (before after : List ℤ) → n ≡ 0 → HasGoals nodes p d us before → AddsGoals nodes p d (take n list) before after → HasGoals nodes p d us after
+none_more nodes p d n us list before after none so adds =
+    subst (λ (l : List ℕ). HasGoals nodes p d l after) (append-nil us)
+    (goals_more nodes p d us [] before after (λ u m. absurd m) so (subst (λ k. AddsGoals nodes p d (take k list) before after) none adds))
 
 pub behind-plans-requires : goal.behind-plans-requires
 behind-plans-requires c =
@@ -119,3 +127,30 @@ add_first-requires-clause-ready c = subst (IsEmptyWithin c.args.cells) (sym c.pa
 
 pub returns-in_err-added-clause-len : goal.returns-in_err-added-clause-len
 returns-in_err-added-clause-len c = c.add_first.ensures.len ∙ c.parts.invariant.3
+
+pub overflow_add-done : goal.overflow_add-done
+overflow_add-done c =
+    let rest = ap (λ (l : List ℕ). length l) c.behind-rest.ensures ∙ length-drop c.parts.done c.args.goals.now in
+    record { fits = omega (arith, c.in_ok-added.ensures.few, rest, c.parts-test.true, c.well_formed.1.1.0) }
+
+pub parts-smaller : goal.parts-smaller
+parts-smaller c = omega (arith, c.parts-test.true, c.if-added-eq0.false)
+
+pub returns-clause-len : goal.returns-clause-len
+returns-clause-len c = c.parts-test.auto.gains ∙ c.parts.invariant.3
+
+pub returns-clause-again : goal.returns-clause-again
+returns-clause-again c = elim c.parts-test.branch [
+  | else-parts-test w ↦ w.work-is ∙ c.parts.invariant.2
+  | then-parts-test+in_ok-added+then-added-eq0 w ↦ w.work-is ∙ w.in_ok-added.ensures.again ∙ c.parts.invariant.2
+]
+
+pub returns-clause-gains : goal.returns-clause-gains
+returns-clause-gains c =
+    let nodes = c.args.setting.now.diagram.now.nodes in
+    let so_far = take c.parts.done c.args.goals.now in
+    elim c.parts-test.branch [
+      | else-parts-test w ↦ subst (HasGoals nodes c.args.setting.now.base.now c.args.setting.now.decision so_far) (sym w.gains-is) c.parts.invariant.1
+      | then-parts-test+in_ok-added+then-added-eq0 w ↦ subst (HasGoals nodes c.args.setting.now.base.now c.args.setting.now.decision so_far) (sym w.gains-is)
+          (none_more nodes c.args.setting.now.base.now c.args.setting.now.decision w.in_ok-added.added so_far w.behind-rest.result.now c.parts.gains w.add_first.new.gains w.if-added-eq0.true c.parts.invariant.1 w.in_ok-added.ensures.adds)
+    ]

@@ -1,6 +1,6 @@
 -- A node that is not listed yet is put behind the others.
-use Rattle.std.proofs.Common.{◌≡◌, ◌∙◌, ◌<◌, ◌+◌, ◌++◌, ◌∷◌, [], ℕ, List, Contains, length, take, slice_index, sym, subst}
-use Rattle.std.proofs.lemmas.List.{get_or_default, take_more}
+use Rattle.std.proofs.Common.{◌≡◌, ◌∙◌, ◌<◌, ◌+◌, ◌++◌, ◌∷◌, [], ℕ, List, Contains, length, take, slice_index, sym, subst, arith}
+use Rattle.std.proofs.lemmas.List.{get_or_default, take_all, take_more}
 use Rattle.maid_laws.proofs.Booleans.{not_both}
 use Rattle.node_sets.specs.declared.sets.NodeSet.{NodeSet}
 use Rattle.node_sets.specs.Sets.{holds, IsIn}
@@ -37,3 +37,9 @@ loop-v-preserved c =
           (subst (λ (s : NodeSet). ListsMore (take c.loop-v.v-index nodes ++ v ∷ []) c.args.list.now.items c.loop-v.list.items s) (sym w.listed-is)
           (listed_already (take c.loop-v.v-index nodes) c.args.list.now.items c.loop-v.list.items c.loop-v.listed c.loop-v.invariant v (sym c.holds.ensures ∙ w.if-not-holds.false)))
     ])
+
+pub offset_bounds-nodes-v-index : goal.offset_bounds-nodes-v-index
+offset_bounds-nodes-v-index c = record { fits = omega (arith, c.loop-v-test.true, c.well_formed.0) }
+
+pub returns : goal.returns
+returns c = subst (λ (l : List ℕ). ListsMore l c.args.list.now.items c.loop-v.list.items c.loop-v.listed) (take_all c.loop-v.v-index c.args.nodes.now c.loop-v-test.false) c.loop-v.invariant

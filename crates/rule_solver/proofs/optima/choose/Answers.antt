@@ -1,5 +1,5 @@
 -- The part of the scope decides as the whole does.
-use Rattle.std.proofs.Common.{ℕ, List, ℤ, IfOk, sym, subst}
+use Rattle.std.proofs.Common.{ℕ, ◌<◌, List, ℤ, IfOk, sym, subst}
 use Rattle.std.proofs.lemmas.Result.{IfOk-weaker}
 use Rattle.maid_model.specs.Nodes.{rows_of, states_of}
 use Rattle.maid_model.specs.Scopes.{scope_of}
@@ -25,3 +25,33 @@ returns-clause-rows c =
     (λ v h. chosen_by nodes base d gains v.items alike sums h)
     (subst (λ n. IfOk c.choose_rows.result (λ v. ChoosesRows (gain_in gains n) n (rows_of nodes d) v.items)) c.states-states.ensures.states
     (subst (λ n. IfOk c.choose_rows.result (λ v. ChoosesRows (gain_in gains c.states-states.result) c.states-states.result n v.items)) c.rows-rows.ensures c.choose_rows.ensures))
+
+pub states-states-requires : goal.states-states-requires
+states-states-requires c = c.requires.decision.within
+
+pub rows-rows-requires : goal.rows-rows-requires
+rows-rows-requires c = c.requires.decision.within
+
+pub row_gains_by-requires-clause-decision : goal.row_gains_by-requires-clause-decision
+row_gains_by-requires-clause-decision c = c.requires.decision
+
+pub row_gains_by-requires-clause-profile : goal.row_gains_by-requires-clause-profile
+row_gains_by-requires-clause-profile c = c.requires.profile
+
+pub row_gains_by-requires-clause-rules : goal.row_gains_by-requires-clause-rules
+row_gains_by-requires-clause-rules c = c.requires.rules
+
+pub row_gains_by-requires-clause-bound : goal.row_gains_by-requires-clause-bound
+row_gains_by-requires-clause-bound c = c.requires.bound
+
+pub row_gains_by-requires-clause-planned : goal.row_gains_by-requires-clause-planned
+row_gains_by-requires-clause-planned c = c.requires.planned
+
+pub row_gains_by-requires-clause-ready : goal.row_gains_by-requires-clause-ready
+row_gains_by-requires-clause-ready c = c.requires.ready
+
+pub choose_rows-requires-clause-some : goal.choose_rows-requires-clause-some
+choose_rows-requires-clause-some c = subst (λ n. 0 < n) (sym c.states-states.ensures.states) (c.states-states.ensures.diagram.graph.has_state c.args.decision)
+
+pub returns-clause-again : goal.returns-clause-again
+returns-clause-again c = IfOk-weaker c.choose_rows.result _ _ (λ v h. c.in_ok-gains.ensures.again) c.choose_rows.ensures

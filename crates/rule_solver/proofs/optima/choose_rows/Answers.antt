@@ -1,4 +1,4 @@
-use Rattle.std.proofs.Common.{◌≡◌, ◌+◌, ◌++◌, ◌∷◌, [], None, subst, sym}
+use Rattle.std.proofs.Common.{◌≡◌, ◌+◌, ◌++◌, ◌∷◌, [], None, refl, subst, sym, arith}
 use Rattle.maid_model.specs.Gains.{gain_in}
 use Rattle.rule_solver.specs.Optima.{ChoosesRows}
 use Rattle.rule_solver.proofs.ChoiceLemmas.{chosen-push}
@@ -18,3 +18,16 @@ choice_at-choice-requires-clause-some c = c.requires.some
 
 pub choice_at-choice-requires-clause-row : goal.choice_at-choice-requires-clause-row
 choice_at-choice-requires-clause-row c = c.loop-row-test.true
+
+pub loop-row-init : goal.loop-row-init
+loop-row-init c = subst (ChoosesRows (gain_in c.args.gains.now c.args.states) c.args.states 0) (sym c.in_ok-chosen.ensures.items) record {
+  count = refl;
+  best = λ s row h k. absurd (omega (arith, k));
+  choices = λ k e h. absurd (omega (arith, h));
+  worths = λ k e h. absurd (omega (arith, h));
+}
+
+pub returns : goal.returns
+returns c =
+    let all : c.loop-row.row ≡ c.args.rows = omega (arith, c.loop-row-test.false, c.loop-row.auto.row-end) in
+    subst (λ n. ChoosesRows (gain_in c.args.gains.now c.args.states) c.args.states n c.loop-row.chosen.items) all c.loop-row.invariant

@@ -1,6 +1,7 @@
-use Rattle.std.proofs.Common.{◌≡◌, ◌⊎◌, ◌∙◌, ◌<◌, ◌+◌, ◌++◌, ◌∷◌, ℕ, ℤ, List, pos, rules, arith, ap, false, get_or, inl, inr, length, sym, subst, true, []}
+use Rattle.std.proofs.Common.{◌≡◌, ◌⊎◌, ◌∙◌, ◌<◌, ◌+◌, ◌++◌, ◌∷◌, ℕ, ℤ, List, pos, rules, arith, ap, false, get_or, inl, inr, length, refl, sym, subst, true, []}
 use Rattle.std.specs.Global.{Vec}
 use Rattle.std.specs.Int.{w128}
+use Rattle.std.proofs.lemmas.Result.{IfOk-from_err}
 use Rattle.std.proofs.lemmas.Int.{to_z-of_z}
 use Rattle.maid_model.specs.declared.diagrams.Kind.{Kind}
 use Rattle.maid_model.specs.declared.diagrams.Kind.TheVariants.{Chance, Decision, Utility}
@@ -100,3 +101,15 @@ worth_for-worth-requires-clause-ready c = (
 
 pub returns-clause-again : goal.returns-clause-again
 returns-clause-again c = (c.loop-v.invariant.3, c.loop-v.invariant.4)
+
+pub loop-v-init : goal.loop-v-init
+loop-v-init c = (ap (λ (l : List ℤ). length l) c.in_ok-worths.ensures.items, λ u h. absurd (omega (arith, h)), refl, refl, refl)
+
+pub returns-in_err-push-in-Chance : goal.returns-in_err-push-in-Chance
+returns-in_err-push-in-Chance c = let e = c.from_residual-in_err-push-in-Chance.ensures.0 in record { worths = IfOk-from_err _ _ e; again = IfOk-from_err _ _ e }
+
+pub returns-clause-worths : goal.returns-clause-worths
+returns-clause-worths c = record {
+  count = omega (arith, c.loop-v.invariant.0, c.loop-v-test.false, c.loop-v.auto.v-end, c.count-v-end.ensures.count);
+  each = λ u h. c.loop-v.invariant.1 u (omega (arith, h, c.loop-v-test.false, c.count-v-end.ensures.count));
+}

@@ -1,7 +1,7 @@
 use Rattle.std.proofs.Common.{◌≡◌, ◌∙◌, sym, subst, ap, arith}
 use Rattle.maid_model.specs.Answers.{FitsAnswers, pure_profile}
 use Rattle.rule_solver.specs.declared.spaces.Workspaces.{Workspaces}
-use Rattle.rule_solver.specs.Rooms.{AreReady}
+use Rattle.rule_solver.specs.Rooms.{AreLeft, AreReady}
 use Rattle.rule_solver.proofs.ChoiceLemmas.{chosen_fit, is_optimum}
 use Rattle.rule_solver.proofs.MadeRooms.{more_rooms}
 use Rattle.size_precheck.specs.Decisions.{ArePlans}
@@ -61,3 +61,24 @@ expected_for-requires-clause-bound c = c.requires.bound
 
 pub expected_for-requires-clause-planned : goal.expected_for-requires-clause-planned
 expected_for-requires-clause-planned c = subst (ArePlansOfWorths c.args.diagram.now.nodes) (sym c.deref-3.ensures.value) c.requires.worths
+
+pub with_room-requires-clause-limit : goal.with_room-requires-clause-limit
+with_room-requires-clause-limit c = c.requires.limit
+
+pub with_room-requires-clause-left : goal.with_room-requires-clause-left
+with_room-requires-clause-left c = subst AreLeft (sym c.take.ensures.value) c.requires.left
+
+pub returns-in_err-spaces-clause-left : goal.returns-in_err-spaces-clause-left
+returns-in_err-spaces-clause-left c = rw c.take.ensures.after tt
+
+pub returns-in_err-answers-clause-left : goal.returns-in_err-answers-clause-left
+returns-in_err-answers-clause-left c = rw c.take.ensures.after tt
+
+pub returns-in_err-profile-clause-left : goal.returns-in_err-profile-clause-left
+returns-in_err-profile-clause-left c = rw c.take.ensures.after tt
+
+pub expected_for-requires-clause-pure : goal.expected_for-requires-clause-pure
+expected_for-requires-clause-pure c = c.in_ok-profile.ensures.total
+
+pub returns-in_err-optimum-clause-left : goal.returns-in_err-optimum-clause-left
+returns-in_err-optimum-clause-left c = rw c.take.ensures.after tt

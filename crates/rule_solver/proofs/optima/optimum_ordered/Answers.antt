@@ -33,3 +33,24 @@ optimum_along-requires-clause-room c = c.in_ok-run.ensures.room
 
 pub optimum_along-requires-clause-limit : goal.optimum_along-requires-clause-limit
 optimum_along-requires-clause-limit c = c.in_ok-run.ensures.limit
+
+pub returns-in_err-keep_bound-clause-left : goal.returns-in_err-keep_bound-clause-left
+returns-in_err-keep_bound-clause-left c = c.requires.left
+
+pub returns-in_err-run-clause-left : goal.returns-in_err-run-clause-left
+returns-in_err-run-clause-left c = c.requires.left
+
+pub optimum_along-requires-clause-bound : goal.optimum_along-requires-clause-bound
+optimum_along-requires-clause-bound c = c.in_ok-keep_bound.ensures.rows
+
+pub returns-in_err-optimum_along-clause-left : goal.returns-in_err-optimum_along-clause-left
+returns-in_err-optimum_along-clause-left c = c.optimum_along.ensures.left
+
+pub returns-clause-rows : goal.returns-clause-rows
+returns-clause-rows c = ((c.args.order.now, c.requires.order), (c.in_ok-keep_bound.ensures.rows, c.in_ok-run.ensures.rows))
+
+pub returns-clause-ok : goal.returns-clause-ok
+returns-clause-ok c = c.in_ok-optimum_along.ensures.optimum
+
+pub returns-clause-left : goal.returns-clause-left
+returns-clause-left c = c.optimum_along.ensures.left

@@ -1,4 +1,7 @@
 -- What the worth asks for is asked here.
+use Rattle.std.proofs.Common.{◌∙◌}
+use Rattle.std.specs.Int.{w128}
+use Rattle.std.proofs.lemmas.Int.{to_z-of_z}
 use Rattle.rule_solver.proofs.optima.worth_for.Goals as goal
 
 pub worth-requires-clause-diagram : goal.worth-requires-clause-diagram
@@ -27,3 +30,9 @@ worth-requires-clause-planned c = c.requires.planned
 
 pub worth-requires-clause-ready : goal.worth-requires-clause-ready
 worth-requires-clause-ready c = c.requires.ready
+
+pub returns-then-owns-clause-worth : goal.returns-then-owns-clause-worth
+returns-then-owns-clause-worth c = λ own q i. to_z-of_z w128 c.worth.result (record { sfits = c.worth.type_inv }) ∙ c.worth.ensures.worth q i
+
+pub returns-then-owns-clause-again : goal.returns-then-owns-clause-again
+returns-then-owns-clause-again c = c.worth.ensures.again

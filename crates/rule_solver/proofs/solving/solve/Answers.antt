@@ -34,3 +34,15 @@ returns-clause-rows c =
     let nodes = c.args.diagram.now.nodes in
     let blocked : IsBlockedBy nodes c.in-Err.cycle.now = subst (IsOutcome nodes) c.in-Err.ensures c.in_ok-relevance.ensures.outcome in
     inl (λ o. blocked.no_order o.0 o.1, subst (IsRelianceCycle nodes) (sym c.in_ok-from_slice-in-Err.ensures.items) blocked.is_cycle)
+
+pub solve_ordered-requires-clause-relevance : goal.solve_ordered-requires-clause-relevance
+solve_ordered-requires-clause-relevance c = c.in_ok-relevance.ensures
+
+pub solve_ordered-requires-clause-order : goal.solve_ordered-requires-clause-order
+solve_ordered-requires-clause-order c = subst (IsOutcome c.args.diagram.now.nodes) c.in-Ok.ensures c.in_ok-relevance.ensures.outcome
+
+pub returns-in-Ok-clause-rows : goal.returns-in-Ok-clause-rows
+returns-in-Ok-clause-rows c = c.solve_ordered.ensures.rows
+
+pub returns-in-Ok-clause-ok : goal.returns-in-Ok-clause-ok
+returns-in-Ok-clause-ok c = c.solve_ordered.ensures.ok

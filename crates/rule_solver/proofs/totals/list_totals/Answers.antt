@@ -3,11 +3,12 @@ use Rattle.std.proofs.Common.{◌≡◌, ◌∙◌, ℕ, ◌+◌, ◌<◌, List,
 use Rattle.std.proofs.lemmas.List.{get_or_append_left}
 use Rattle.std.proofs.Math.Decide.{ℕ_discrete}
 use Rattle.std.proofs.Math.Seq.{get_or-append_seam}
-use Rattle.maid_model.specs.Nodes.{is_decision}
+use Rattle.maid_model.specs.declared.diagrams.Kind.TheVariants.{Decision}
+use Rattle.maid_model.specs.Nodes.{is_decision, node_at}
 use Rattle.maid_model.specs.Profiles.{no_rule}
 use Rattle.maid_model.specs.Tables.{chance_total, rule_total, total_by, weight_total}
-use Rattle.maid_model.specs.Views.{RuleView}
-use Rattle.rule_solver.proofs.NextRules.{AreNext, first_rules, next_total, rules_go_on, rules_stay}
+use Rattle.maid_model.specs.Views.{NodeView, RuleView}
+use Rattle.rule_solver.proofs.NextRules.{AreNext, first_rules, next_total, next_within, rules_go_on, rules_stay}
 use Rattle.rule_solver.proofs.totals.list_totals.Goals as goal
 use Rattle.rule_solver.proofs.totals.list_totals.Goals.{in-Chance, in-Decision, in-Utility}
 
@@ -21,6 +22,10 @@ put_last f n xs more x is len so last u h = ap (λ (l : List ℕ). slice_index l
     go : Dec (u ≡ n) → slice_index (xs ++ x ∷ []) u ≡ f u
     go (yes e) = ap (λ k. slice_index (xs ++ x ∷ []) k) (e ∙ sym len) ∙ get_or-append_seam xs x [] 0 ∙ last ∙ ap f (sym e)
     go (no m) = get_or_append_left xs (x ∷ []) 0 u (subst (λ k. u < k) (sym len) (below m)) ∙ so u (below m)
+
+-- at a decision there is a next rule
+rule_within : (nodes : List NodeView) (p rules : List RuleView) (v place n : ℕ) → rules ≡ p → AreNext nodes p v place → n ≡ length nodes → v < n → Decision ≡ (node_at nodes v).kind → place < length rules
+rule_within nodes p rules v place n is next all here kind = subst (λ (l : List RuleView). place < length l) (sym is) (next_within nodes p v place next (omega (arith, all, here)) (sym kind))
 
 pub loop-v-init : goal.loop-v-init
 loop-v-init c = record {
@@ -60,3 +65,16 @@ returns-clause-totals c = record {
 
 pub returns-clause-diagram : goal.returns-clause-diagram
 returns-clause-diagram c = c.count-v-end.ensures.diagram
+
+pub bounds-rules-place : goal.bounds-rules-place
+bounds-rules-place c =
+    let here = rule_within c.args.diagram.now.nodes c.args.profile.now c.rules-rules.result.now c.loop-v.v c.loop-v.place c.count-v-end.result c.rules-rules.ensures c.loop-v.invariant.next c.count-v-end.ensures.count c.loop-v-test.true c.in-Decision.ensures.kind in
+    omega (arith, here)
+
+pub offset_bounds-rules-place : goal.offset_bounds-rules-place
+offset_bounds-rules-place c = record { fits = omega (arith, bounds-rules-place c, c.rules-rules.type_inv.0) }
+
+pub overflow_add-place : goal.overflow_add-place
+overflow_add-place c =
+    let here = rule_within c.args.diagram.now.nodes c.args.profile.now c.rules-rules.result.now c.loop-v.v c.loop-v.place c.count-v-end.result c.rules-rules.ensures c.loop-v.invariant.next c.count-v-end.ensures.count c.loop-v-test.true c.in-Decision.ensures.kind in
+    record { fits = omega (arith, here, c.rules-rules.type_inv.0) }
