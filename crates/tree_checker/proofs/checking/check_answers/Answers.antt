@@ -1,10 +1,11 @@
 use Rattle.std.proofs.lemmas.Result.{err_from_is_err_and}
-use Rattle.std.proofs.Common.{◌≡◌, ◌∙◌, ◌+◌, ◌<◌, ◌≤◌, length, Some, None, ap, sym, subst, arith}
-use Rattle.maid_model.specs.Answers.{answered, pure_profile}
+use Rattle.std.proofs.Common.{◌≡◌, ◌∙◌, ◌+◌, ◌<◌, ◌≤◌, length, Some, None, ap, sym, subst, arith, All}
+use Rattle.maid_model.specs.Answers.{answered, pure_profile, IsReduced}
 use Rattle.maid_model.specs.Profiles.{IsProfile}
 use Rattle.maid_model.specs.Views.{AnswerView, SolvedView}
 use Rattle.maid_laws.proofs.AnswerLaws.{profile}
 use Rattle.tree_checker.proofs.FirstLines.{CheckedSoFar, IsLookedAt, all_right, checked_next, checked_start, gain_first, gains_like, judged_like, line_room, looked_at, passed_all, row_first, rows_room, answer_fits}
+use Rattle.part_laws.specs.ScopeLaws.{HasUnitRules}
 use Rattle.tree_checker.proofs.checking.check_answers.Goals as goal
 
 pub loop-answer-init : goal.loop-answer-init
@@ -103,3 +104,15 @@ first_wrong_gain-requires-clause-bound c = c.requires.bound
 
 pub returns-in_err-first_wrong_gain : goal.returns-in_err-first_wrong_gain
 returns-in_err-first_wrong_gain c = rw (err_from_is_err_and c.from_residual-in_err-first_wrong_gain.result c.from_residual-in_err-first_wrong_gain.ensures.1).1 tt
+
+pub answer_fault-requires-clause-pure : goal.answer_fault-requires-clause-pure
+answer_fault-requires-clause-pure c = subst (HasUnitRules c.args.diagram.now.nodes) (sym c.in_ok-chosen.ensures.rules) (c.scoped_sums_fit.ensures.answers c.args.diagram.now.nodes _)
+
+pub first_wrong_gain-requires-clause-pure : goal.first_wrong_gain-requires-clause-pure
+first_wrong_gain-requires-clause-pure c = subst (HasUnitRules c.args.diagram.now.nodes) (sym c.in_ok-chosen.ensures.rules) (c.scoped_sums_fit.ensures.answers c.args.diagram.now.nodes _)
+
+pub first_wrong_gain-requires-clause-count : goal.first_wrong_gain-requires-clause-count
+first_wrong_gain-requires-clause-count c = ap length (c.deref-2.ensures.value ∙ ap (λ (x : SolvedView). x.gains) c.solved.view_is) ∙ c.requires.fits.gains
+
+pub first_wrong_gain-requires-clause-reduced : goal.first_wrong_gain-requires-clause-reduced
+first_wrong_gain-requires-clause-reduced c = subst (All IsReduced) (sym (c.deref-2.ensures.value ∙ ap (λ (x : SolvedView). x.gains) c.solved.view_is)) c.requires.fits.reduced

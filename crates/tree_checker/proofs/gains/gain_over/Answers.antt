@@ -5,8 +5,9 @@ use Rattle.std.specs.Int.{w128}
 use Rattle.maid_model.specs.Diagrams.{greatest_number}
 use Rattle.maid_model.specs.Gains.{base_mass, greatest_utility}
 use Rattle.maid_model.proofs.Leaves.{whole_mass}
-use Rattle.tree_checker.proofs.WalkCells.{first_gain}
+use Rattle.tree_checker.proofs.WalkCells.{first_gain, some_cell}
 use Rattle.tree_checker.proofs.WalkOpened.{small_fits}
+use Rattle.diagram_graph.specs.Room.{cells_at}
 use Rattle.tree_checker.proofs.gains.gain_over.Goals as goal
 
 pub cells_over-requires-clause-fits : goal.cells_over-requires-clause-fits
@@ -38,3 +39,8 @@ returns-in_err-sums-clause-sum c = rw (err_from_is_err_and c.from_residual.resul
 
 pub returns-in_err-sums-clause-small : goal.returns-in_err-sums-clause-small
 returns-in_err-sums-clause-small c = rw (err_from_is_err_and c.from_residual.result c.from_residual.ensures.1).1 tt
+
+pub index-requires : goal.index-requires
+index-requires c =
+    let one = c.in_ok-sums.ensures.gain_count ∙ ap (cells_at c.args.diagram.now.nodes) c.count.ensures.count ∙ some_cell c.args.diagram.now c.count.ensures.diagram in
+    omega (arith, c.in_ok-sums.sums.gains.ok.0, one)

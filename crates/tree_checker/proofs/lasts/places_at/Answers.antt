@@ -1,7 +1,8 @@
-use Rattle.std.proofs.Common.{◌≡◌, ◌∙◌, ◌*◌, ap, arith, get_or, slice_index_or, sym}
+use Rattle.std.proofs.Common.{◌≡◌, ◌∙◌, ◌*◌, ap, arith, get_or, slice_index_or, sym, length}
 use Rattle.maid_model.specs.Worlds.{world_of}
 use Rattle.maid_model.proofs.Picked.{cell_times_fits}
 use Rattle.tree_checker.proofs.WalkPlaces.{cell_first, cell_small, cell_start, factor_is, row_first, row_small, row_start}
+use Rattle.std.proofs.lemmas.List.{length-map}
 use Rattle.tree_checker.proofs.lasts.places_at.Goals as goal
 
 pub overflow_mul-result : goal.overflow_mul-result
@@ -57,3 +58,6 @@ place-requires-clause-decision c = c.requires.setting.decision
 
 pub place-requires-clause-world : goal.place-requires-clause-world
 place-requires-clause-world c = c.requires.world
+
+pub index-state-requires : goal.index-state-requires
+index-state-requires c = omega (arith, c.requires.node, c.requires.world.len, length-map c.args.setting.now.diagram.now.nodes (λ n. n.states), ap length c.world.view_is, c.world.inside.states.ok.0)

@@ -1,12 +1,13 @@
 use Rattle.maid_model.specs.declared.answers.Row.{Row}
 use Rattle.std.proofs.lemmas.Result.{err_from_is_err_and}
 use Rattle.std.specs.Prelude.{All}
-use Rattle.std.proofs.Common.{◌∙◌, ◌*◌, sym, subst, ◌<◌}
+use Rattle.std.proofs.Common.{◌∙◌, ◌*◌, sym, subst, ◌<◌, ◌≤◌, slice_index}
 use Rattle.maid_model.specs.Answers.{no_row}
 use Rattle.maid_model.specs.Nodes.{states_of}
 use Rattle.maid_model.specs.Scopes.{scope_of}
 use Rattle.tree_checker.specs.Judged.{FailsListed, JudgesRows, PassesListed}
 use Rattle.tree_checker.proofs.RowTransfer.{gain_count, mass_count, rows_judged}
+use Rattle.maid_model.specs.Diagrams.{greatest_number}
 use Rattle.tree_checker.proofs.rows.answer_fault.Goals as goal
 
 pub scope_sums-requires-clause-rules : goal.scope_sums-requires-clause-rules
@@ -75,3 +76,9 @@ first_fault-requires-clause-reduced c = c.requires.reduced
 
 pub first_fault-requires-clause-scale : goal.first_fault-requires-clause-scale
 first_fault-requires-clause-scale c = c.scale.ensures.some
+
+pub first_fault-requires-clause-room : goal.first_fault-requires-clause-room
+first_fault-requires-clause-room c = λ row. subst (λ n. slice_index c.in_ok-sums.sums.masses.items row * n ≤ greatest_number) (sym c.scale.ensures.scale) (c.in_ok-sums.ensures.mass_small row)
+
+pub first_fault-requires-clause-small : goal.first_fault-requires-clause-small
+first_fault-requires-clause-small c = c.in_ok-sums.ensures.gain_small

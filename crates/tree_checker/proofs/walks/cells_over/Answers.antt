@@ -45,3 +45,21 @@ returns-in_err-factors c = rw (err_from_is_err_and c.from_residual-in_err-factor
 
 pub returns-in_err-nodes : goal.returns-in_err-nodes
 returns-in_err-nodes c = rw (err_from_is_err_and c.from_residual-in_err-nodes.result c.from_residual-in_err-nodes.ensures.1).1 tt
+
+pub add_worlds-requires-clause-profile : goal.add_worlds-requires-clause-profile
+add_worlds-requires-clause-profile c = c.requires.profile
+
+pub add_worlds-requires-clause-marks : goal.add_worlds-requires-clause-marks
+add_worlds-requires-clause-marks c = c.requires.marks
+
+pub add_worlds-requires-clause-decision : goal.add_worlds-requires-clause-decision
+add_worlds-requires-clause-decision c = c.requires.decision
+
+pub add_worlds-requires-clause-fits : goal.add_worlds-requires-clause-fits
+add_worlds-requires-clause-fits c = c.requires.fits
+
+pub add_worlds-requires-clause-world : goal.add_worlds-requires-clause-world
+add_worlds-requires-clause-world c = c.in_ok-world.ensures.first
+
+pub add_worlds-requires-clause-known : goal.add_worlds-requires-clause-known
+add_worlds-requires-clause-known c = c.in_ok-world.ensures.world
