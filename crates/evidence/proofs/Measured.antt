@@ -2,7 +2,7 @@
 use Rattle.std.proofs.Common.{◌≡◌, ◌∙◌, ℕ, suc, ◌+◌, ◌≤◌, min, max, Bool, false, cond, filter, map, List, [], ◌∷◌, ◌++◌, Contains, refl, sym, ap, subst, inl, inr, arith, Some, None}
 use Rattle.std.specs.Prelude.{sum_by}
 use Rattle.std.specs.List.{range_with_len}
-use Rattle.std.proofs.lemmas.List.{append_assoc}
+use Rattle.std.proofs.lemmas.List.{append-nil, append_assoc}
 use Rattle.std.proofs.lemmas.List.Elements.{filter-append}
 use Rattle.std.proofs.lemmas.List.FromFn.{map-range_with_len_more}
 use Rattle.std.proofs.lemmas.List.Sums.{sum_by-append}
@@ -23,7 +23,7 @@ use Rattle.ring_sums.proofs.Same.{map_append}
 use Rattle.plan_sums.specs.Plans.{PlanView}
 use Rattle.size_precheck.specs.declared.sizes.Size.{Size}
 use Rattle.size_precheck.specs.Laws.{OneSize}
-use Rattle.size_precheck.specs.Sizes.{HasSize, IsSizeOfAll, IsSizeOfRun, greatest, run_plans, utility_list}
+use Rattle.size_precheck.specs.Sizes.{HasSize, IsSizeOfAll, greatest, utility_list}
 use Rattle.rule_solver.specs.Faults.{KeepsPlanLimits}
 use Rattle.rule_solver.specs.Rooms.{HasCellsAtMost}
 use Rattle.evidence.specs.Measures.{AddsPlan, AddsUtility}
@@ -37,7 +37,7 @@ greatest_append (x ∷ xs) ys = let a = greatest_append xs ys in ap (λ n. max x
     max_assoc : (a b c : ℕ) → max a (max b c) ≡ max (max a b) c
     max_assoc a b c = omega arith
 
-size_push : (nodes : List NodeView) (plans : List PlanView) (plan : PlanView) (before after : Size) → IsSizeOfAll nodes plans before → AddsPlan nodes plan before after → IsSizeOfAll nodes (plans ++ plan ∷ []) after
+pub size_push : (nodes : List NodeView) (plans : List PlanView) (plan : PlanView) (before after : Size) → IsSizeOfAll nodes plans before → AddsPlan nodes plan before after → IsSizeOfAll nodes (plans ++ plan ∷ []) after
 size_push nodes plans plan before after all adds = record {
   sizes = all.sizes ++ adds.size ∷ [];
   each = zip_append (HasSize nodes) plans (plan ∷ []) all.sizes (adds.size ∷ []) all.each (adds.has_size, tt);
@@ -68,8 +68,23 @@ size_few nodes plans size all = few COUNT_END _ _ all.work
     few : (end a s : ℕ) → a ≡ min s end → a ≤ end
     few end a s e = omega (arith, e)
 
--- ---- all plans
-module _ (nodes : List NodeView) (order : List ℕ) (x : ℕ) where
+-- a node more leaves the work within its end
+pub work_few : (nodes : List NodeView) (x v : ℕ) (before after : Size) → AddsUtility nodes x v before after → before.work ≤ COUNT_END → after.work ≤ COUNT_END
+work_few nodes x v before after adds few = go (node_at nodes v).kind refl
+  where
+    stop_few : (end a b : ℕ) → b ≡ min a end → b ≤ end
+    stop_few end a b e = omega (arith, e)
+
+    kept : (k : Kind) → (node_at nodes v).kind ≡ k → (k ≡ Utility → ⊥) → after.work ≤ COUNT_END
+    kept k e never = subst (λ (s : Size). s.work ≤ COUNT_END) (sym (adds.other (λ h. never (sym e ∙ h)))) few
+
+    go : (k : Kind) → (node_at nodes v).kind ≡ k → after.work ≤ COUNT_END
+    go Chance e = kept Chance e (λ h. cc)
+    go Decision e = kept Decision e (λ h. cc)
+    go Utility e = stop_few COUNT_END _ _ (adds.utility e).work
+
+-- ---- the plans with each utility, behind others
+module _ (nodes : List NodeView) (plans : List PlanView) (x : ℕ) where
   abbrev utility_test : ℕ → Bool
   utility_test v = is_utility (node_at nodes v).kind
 
@@ -78,7 +93,7 @@ module _ (nodes : List NodeView) (order : List ℕ) (x : ℕ) where
   utilities_to n = map (λ u. plan_given x (Some u)) (filter utility_test (range_with_len 0 n))
 
   abbrev plans_to : ℕ → List PlanView
-  plans_to n = run_plans nodes order ++ (plan_given x None ∷ utilities_to n)
+  plans_to n = plans ++ utilities_to n
 
   utilities_more : (n : ℕ) → utilities_to (n + 1) ≡ utilities_to n ++ map (λ u. plan_given x (Some u)) (filter utility_test (n ∷ []))
   utilities_more n =
@@ -93,39 +108,29 @@ module _ (nodes : List NodeView) (order : List ℕ) (x : ℕ) where
       range_more : (n : ℕ) → range_with_len 0 (n + 1) ≡ range_with_len 0 n ++ n ∷ []
       range_more n = sym (same (range_with_len 0 (n + 1))) ∙ map-range_with_len_more (λ (v : ℕ). v) 0 n n (omega arith) ∙ ap (λ l. l ++ n ∷ []) (same (range_with_len 0 n))
 
-  -- what holds of the size after the nodes before n
-  pub record Counted (n : ℕ) (size : Size) : Type 0 where
-    pub is_size : IsSizeOfAll nodes (plans_to n) size
-    pub few : size.work ≤ COUNT_END
+  -- the size after the nodes before n
+  abbrev pub Counted : ℕ → Size → Type 0
+  Counted n size = IsSizeOfAll nodes (plans_to n) size
 
-  counted : (n : ℕ) (size : Size) → IsSizeOfAll nodes (plans_to n) size → Counted n size
-  counted n size is = record { is_size = is; few = size_few nodes (plans_to n) size is }
-
-  pub counted_first : (run size : Size) → IsSizeOfRun nodes order run → AddsPlan nodes (plan_given x None) run size → Counted 0 size
-  counted_first run size is adds = counted 0 size (size_push nodes (run_plans nodes order) (plan_given x None) run size is adds)
+  pub counted_first : (size : Size) → IsSizeOfAll nodes plans size → Counted 0 size
+  counted_first size is = subst (λ l. IsSizeOfAll nodes l size) (sym (append-nil plans)) is
 
   pub counted_next : (n : ℕ) (before after : Size) → Counted n before → AddsUtility nodes x n before after → Counted (n + 1) after
   counted_next n before after c adds = go (node_at nodes n).kind refl
     where
-      plans_are : (k : Kind) → (node_at nodes n).kind ≡ k → plans_to (n + 1) ≡ run_plans nodes order ++ (plan_given x None ∷ (utilities_to n ++ map (λ u. plan_given x (Some u)) (cond (is_utility k) (n ∷ []) [])))
-      plans_are k e = ap (λ l. run_plans nodes order ++ (plan_given x None ∷ l)) (utilities_more n ∙ ap (λ b. utilities_to n ++ map (λ u. plan_given x (Some u)) (cond b (n ∷ []) [])) (ap is_utility e))
-
-      none : {X : Type 0} (l : List X) → l ++ [] ≡ l
-      none [] = refl
-      none (y ∷ ys) = ap (λ l. y ∷ l) (none ys)
+      plans_are : (k : Kind) → (node_at nodes n).kind ≡ k → plans_to (n + 1) ≡ plans ++ (utilities_to n ++ map (λ u. plan_given x (Some u)) (cond (is_utility k) (n ∷ []) []))
+      plans_are k e = ap (λ l. plans ++ l) (utilities_more n ∙ ap (λ b. utilities_to n ++ map (λ u. plan_given x (Some u)) (cond b (n ∷ []) [])) (ap is_utility e))
 
       kept : (k : Kind) → (node_at nodes n).kind ≡ k → is_utility k ≡ false → (k ≡ Utility → ⊥) → Counted (n + 1) after
       kept k e f never =
           let same = adds.other (λ h. never (sym e ∙ h)) in
-          subst (Counted (n + 1)) (sym same)
-          (counted (n + 1) before (subst (λ l. IsSizeOfAll nodes l before)
-          (sym (plans_are k e ∙ ap (λ b. run_plans nodes order ++ (plan_given x None ∷ (utilities_to n ++ map (λ u. plan_given x (Some u)) (cond b (n ∷ []) [])))) f ∙ ap (λ l. run_plans nodes order ++ (plan_given x None ∷ l)) (none (utilities_to n)))) c.is_size))
+          subst (Counted (n + 1)) (sym same) (subst (λ l. IsSizeOfAll nodes l before)
+          (sym (plans_are k e ∙ ap (λ b. plans ++ (utilities_to n ++ map (λ u. plan_given x (Some u)) (cond b (n ∷ []) []))) f ∙ ap (λ l. plans ++ l) (append-nil (utilities_to n)))) c)
 
       go : (k : Kind) → (node_at nodes n).kind ≡ k → Counted (n + 1) after
       go Chance e = kept Chance e refl (λ h. cc)
       go Decision e = kept Decision e refl (λ h. cc)
-      go Utility e =
-          counted (n + 1) after (subst (λ l. IsSizeOfAll nodes l after) (append_assoc (run_plans nodes order) (plan_given x None ∷ utilities_to n) (plan_given x (Some n) ∷ []) ∙ sym (plans_are Utility e)) (size_push nodes (plans_to n) (plan_given x (Some n)) before after c.is_size (adds.utility e)))
+      go Utility e = subst (λ l. IsSizeOfAll nodes l after) (append_assoc plans (utilities_to n) (plan_given x (Some n) ∷ []) ∙ sym (plans_are Utility e)) (size_push nodes (plans_to n) (plan_given x (Some n)) before after c (adds.utility e))
 
 -- ---- the limits
 -- a diagram has one order of solving and its plans one size, so plans that keep the limits are small enough

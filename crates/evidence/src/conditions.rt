@@ -6,17 +6,22 @@ ghost use Rattle.maid_model.specs.declared.diagrams.Kind.TheVariants.{Chance};
 ghost use Rattle.maid_model.specs.Answers.{IsAnswer};
 ghost use Rattle.maid_model.specs.Nodes.{node_at, states_of};
 ghost use Rattle.reach_laws.specs.Evidence.{IsEvidence, all_seeing_diagram};
+ghost use Rattle.evidence.specs.Bounds.{KeepsBoundsGiven};
 ghost use Rattle.evidence.specs.Conditional.{IsBestGiven, IsPerfectSeeing, IsWorthGiven, IsWorthIn};
-ghost use Rattle.evidence.specs.Faults.{answer_pass, given_fault, given_pass};
+ghost use Rattle.evidence.specs.Faults.{answer_pass, given_fault, given_pass, impossible_pass};
+ghost use Rattle.evidence.specs.Plans.{HasFurtherPlans};
+ghost use Rattle.evidence.specs.Sizes.{HasSpace};
 
 use crate::faults::GivenFault;
 use crate::limits::answer;
+use crate::measures::GivenPlans;
 use crate::sights::see;
 use crate::sums::gains_given;
 use maid_laws::answers_are_subgame_perfect;
 use maid_model::{Diagram, Profile, Ratio, Solved};
 use part_laws::scoped_sums_fit;
 use reach_laws::{best_given, seen_everywhere};
+use rule_solver::Workspaces;
 use std::alloc::Global;
 
 /// A diagram under evidence.
@@ -28,6 +33,32 @@ pub struct Conditioned {
     pub solved: Solved,
     /// What the answer is worth to each agent where the node has the state, in lowest terms.
     pub gains: Vec<Ratio>,
+}
+
+// What the answer is worth to each agent where the node has the state.
+fn worth_given(
+    alloc: Global,
+    diagram: &Diagram,
+    solved: &Solved,
+    node: usize,
+    state: usize,
+    plans: &GivenPlans,
+    spaces: &mut Workspaces,
+) -> Result<Vec<Ratio>, GivenFault>
+    requires answer { IsAnswer diagram.now solved.now }
+    requires within { node < length diagram.now.nodes }
+    requires evidence { IsEvidence diagram.now.nodes node }
+    requires state { state < states_of diagram.now.nodes node }
+    requires bounds { KeepsBoundsGiven diagram.now node }
+    requires planned { HasFurtherPlans diagram.now.nodes node plans.now }
+    requires ready { HasSpace diagram.now.nodes node spaces.old }
+    ensures rows { Passes given_fault (impossible_pass diagram.now node state) result }
+    ensures gains { IfOk result (λ v. IsWorthIn diagram.now node state solved.now v.items) }
+{
+    scoped_sums_fit();
+    let _count = diagram.count();
+    let profile = Profile::pure(alloc, diagram, &solved.answers)?;
+    gains_given(alloc, diagram, &profile, node, state, plans, spaces)
 }
 
 // The answer of a diagram in which every decision sees the node, and what it is worth to each agent
@@ -45,12 +76,11 @@ fn condition(
     ensures ok { IfOk result (λ made. IsAnswer seen.now made.0) }
     ensures gains { IfOk result (λ made. IsWorthIn seen.now node state made.0 made.1.items) }
 {
-    scoped_sums_fit();
     let mut answered = answer(alloc, seen, node)?;
-    let profile = Profile::pure(alloc, seen, &answered.solved.answers)?;
-    let (plans, spaces) = (&answered.plans, &mut answered.spaces);
-    let gains = gains_given(alloc, seen, &profile, node, state, plans, spaces)?;
-    Ok((answered.solved, gains))
+    let (solved, plans, spaces) = (&answered.solved, &answered.plans, &mut answered.spaces);
+    let gains = worth_given(alloc, seen, solved, node, state, plans, spaces);
+    // Of the run only the answer is kept, whether there are gains or not.
+    Ok((answered.into_solved(), gains?))
 }
 
 /// The diagram under evidence: every decision sees the chance node, as its last parent where it

@@ -1,6 +1,6 @@
 //! The limits that a diagram under evidence must keep to be solved, and its answer.
 
-ghost use Rattle.std.specs.Prelude.{◌≢◌, ◌<◌, ◌≤◌, length, IfOk};
+ghost use Rattle.std.specs.Prelude.{◌≡◌, ◌≢◌, ◌<◌, ◌≤◌, length, IfOk};
 ghost use Rattle.first_fault.specs.Answers.{Passes};
 ghost use Rattle.maid_model.specs.declared.diagrams.Kind.TheVariants.{Utility};
 ghost use Rattle.maid_model.specs.declared.limits.TheConstants.{MOST_PLAN_CELLS};
@@ -8,8 +8,10 @@ ghost use Rattle.maid_model.specs.Answers.{IsAnswer};
 ghost use Rattle.maid_model.specs.Diagrams.{IsDiagram};
 ghost use Rattle.maid_model.specs.Nodes.{node_at};
 ghost use Rattle.maid_model.specs.Placing.{IsRelianceOrder};
+ghost use Rattle.maid_model.specs.Scopes.{KeepsScopedBounds};
 ghost use Rattle.relevance_graph.specs.Relevant.{IsRelevance};
 ghost use Rattle.rule_solver.specs.Faults.{solve_fault};
+ghost use Rattle.rule_solver.specs.Rooms.{AreReady, HasRoomForRun};
 ghost use Rattle.evidence.specs.Bounds.{KeepsBoundsGiven};
 ghost use Rattle.evidence.specs.Faults.{further_pass, limits_pass, given_size_pass, solving_pass};
 ghost use Rattle.evidence.specs.Plans.{HasFurtherPlans, HasRoomForAll, HasRunPlans};
@@ -23,7 +25,7 @@ use rule_solver::{
     orders_list_decisions, solve_by,
 };
 use size_precheck::sizes_of_plans;
-use std::alloc::Global;
+use std::alloc::{AllocError, Global};
 use weight_scale::{BoundPlace, place_given};
 
 /// Refuses a diagram of which a further scope doesn't keep the weight bound: that of an agent
@@ -79,6 +81,37 @@ pub(crate) struct Answered {
     pub spaces: Workspaces,
 }
 
+impl Answered {
+    /// The answer alone.
+    pub(crate) fn into_solved(self) -> Solved
+        ensures { result ≡ self.solved }
+    {
+        self.solved
+    }
+}
+
+/// The answer of a diagram by the plans of the run, and the workspaces, which have room for all plans.
+fn solve_planned(
+    alloc: Global,
+    diagram: &Diagram,
+    relevance: &Relevance,
+    order: &[usize],
+    plans: &GivenPlans,
+) -> Result<(Solved, Workspaces), AllocError>
+    requires bound { KeepsScopedBounds diagram.now }
+    requires relevance { IsRelevance diagram.now.nodes relevance.now }
+    requires order { IsRelianceOrder diagram.now.nodes order.now }
+    requires plans { HasRunPlans diagram.now.nodes order.now plans.now }
+    requires room { HasRoomForRun diagram.now.nodes plans.now.size.cells }
+    requires limit { plans.now.size.cells ≤ MOST_PLAN_CELLS }
+    ensures ok { IfOk result (λ made. IsAnswer diagram.now made.0) }
+    ensures ready { IfOk result (λ made. AreReady plans.now.size.cells made.1) }
+{
+    let mut spaces = Workspaces::reserve(alloc, plans.size.cells as usize)?;
+    let solved = solve_by(alloc, diagram, relevance, order, &plans.run, &mut spaces)?;
+    Ok((solved, spaces))
+}
+
 /// The answer of a diagram within the limits of a run under evidence, or the first of them that
 /// it doesn't keep. All plans are made once, and the workspaces are reserved once.
 fn answer_ordered(
@@ -102,8 +135,7 @@ fn answer_ordered(
     keep_bound(diagram)?;
     keep_bound_given(diagram, node)?;
     let plans = keep_sizes(alloc, diagram, order, node)?;
-    let mut spaces = Workspaces::reserve(alloc, plans.size.cells as usize)?;
-    let solved = solve_by(alloc, diagram, relevance, order, &plans.run, &mut spaces)?;
+    let (solved, spaces) = solve_planned(alloc, diagram, relevance, order, &plans)?;
     Ok(Answered {
         solved,
         plans,

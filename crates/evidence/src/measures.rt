@@ -7,8 +7,8 @@ ghost use Rattle.maid_model.specs.Nodes.{node_at};
 ghost use Rattle.maid_model.specs.Placing.{IsRelianceOrder};
 ghost use Rattle.size_precheck.specs.Runs.{joined_size};
 ghost use Rattle.size_precheck.specs.Sizes.{CanBePlanned};
-ghost use Rattle.evidence.specs.Measures.{AddsPlanGiven, AddsUtility};
-ghost use Rattle.evidence.specs.Plans.{HasFurtherPlans, HasRunPlans, IsPlanGiven, IsPlanIf};
+ghost use Rattle.evidence.specs.Measures.{AddsPlanGiven, AddsUtilities, AddsUtility};
+ghost use Rattle.evidence.specs.Plans.{HasFurtherPlans, HasRunPlans, HasUtilityPlans, IsPlanGiven, IsPlanIf};
 ghost use Rattle.evidence.specs.Sizes.{IsSizeOfPlans, plan_given};
 
 use maid_model::{COUNT_END, Diagram, Kind};
@@ -83,6 +83,30 @@ fn add_utility(
     }
 }
 
+/// The plan that keeps the node with each utility, at the place of the utility, and the size with all
+/// of them counted in.
+fn add_utilities(
+    alloc: Global,
+    diagram: &Diagram,
+    node: usize,
+    size: Size,
+) -> Result<(Vec<Option<Plan>>, Size), AllocError>
+    requires within { node < length diagram.now.nodes }
+    requires kind { (node_at diagram.now.nodes node).kind ≢ Utility }
+    requires few { size.work ≤ COUNT_END }
+    ensures plans { IfOk result (λ made. HasUtilityPlans diagram.now.nodes node made.0.items) }
+    ensures size { IfOk result (λ made. AddsUtilities diagram.now.nodes node size made.1) }
+{
+    let mut plans = Vec::with_capacity(alloc, diagram.count())?;
+    let mut all = size;
+    for v in 0..diagram.count() {
+        let (plan, more) = add_utility(alloc, diagram, node, v, all)?;
+        plans.push(plan)?;
+        all = more;
+    }
+    Ok((plans, all))
+}
+
 /// All plans of a diagram in which the node is given: those of the run in this order, the plan that
 /// keeps the node, and that plan with each utility.
 pub(crate) fn plan_all(
@@ -100,14 +124,8 @@ pub(crate) fn plan_all(
 {
     orders_list_decisions();
     let run = plan_run(alloc, diagram, order)?;
-    let (alone, first) = add_plan(alloc, diagram, node, None, run.size)?;
-    let mut utilities = Vec::with_capacity(alloc, diagram.count())?;
-    let mut size = first;
-    for v in 0..diagram.count() {
-        let (plan, more) = add_utility(alloc, diagram, node, v, size)?;
-        utilities.push(plan)?;
-        size = more;
-    }
+    let (alone, size) = add_plan(alloc, diagram, node, None, run.size)?;
+    let (utilities, size) = add_utilities(alloc, diagram, node, size)?;
     Ok(GivenPlans {
         run,
         alone,

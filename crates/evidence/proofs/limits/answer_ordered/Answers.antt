@@ -1,7 +1,5 @@
 -- Each limit refuses first or is kept, and the answer is that of the solver.
-use Rattle.std.proofs.Common.{sym, subst}
 use Rattle.evidence.specs.Faults.{further_pass, given_size_pass, limits_pass}
-use Rattle.rule_solver.specs.Rooms.{AreReady}
 use Rattle.rule_solver.specs.Faults.{bound_pass, solve_fault}
 use Rattle.first_fault.specs.Passes.{◌▸◌}
 use Rattle.first_fault.proofs.Leading.{passes_on}
@@ -79,45 +77,6 @@ returns-in_err-plans-clause-plans c = IfOk-from_err _ _ c.from_residual-in_err-p
 pub returns-in_err-plans-clause-ready : goal.returns-in_err-plans-clause-ready
 returns-in_err-plans-clause-ready c = IfOk-from_err _ _ c.from_residual-in_err-plans.ensures.0
 
-pub reserve-requires : goal.reserve-requires
-reserve-requires c = c.in_ok-plans.ensures.limit
-
-pub returns-in_err-spaces-clause-rows : goal.returns-in_err-spaces-clause-rows
-returns-in_err-spaces-clause-rows c = solver_out_of_memory (limits_pass c.args.diagram.now c.args.node) _ c.from_residual-in_err-spaces.ensures
-
-pub returns-in_err-spaces-clause-diagram : goal.returns-in_err-spaces-clause-diagram
-returns-in_err-spaces-clause-diagram c = IfOk-from_err _ _ c.from_residual-in_err-spaces.ensures.0
-
-pub returns-in_err-spaces-clause-ok : goal.returns-in_err-spaces-clause-ok
-returns-in_err-spaces-clause-ok c = IfOk-from_err _ _ c.from_residual-in_err-spaces.ensures.0
-
-pub returns-in_err-spaces-clause-bounds : goal.returns-in_err-spaces-clause-bounds
-returns-in_err-spaces-clause-bounds c = IfOk-from_err _ _ c.from_residual-in_err-spaces.ensures.0
-
-pub returns-in_err-spaces-clause-plans : goal.returns-in_err-spaces-clause-plans
-returns-in_err-spaces-clause-plans c = IfOk-from_err _ _ c.from_residual-in_err-spaces.ensures.0
-
-pub returns-in_err-spaces-clause-ready : goal.returns-in_err-spaces-clause-ready
-returns-in_err-spaces-clause-ready c = IfOk-from_err _ _ c.from_residual-in_err-spaces.ensures.0
-
-pub solve_by-requires-clause-bound : goal.solve_by-requires-clause-bound
-solve_by-requires-clause-bound c = c.in_ok-keep_bound.ensures.rows
-
-pub solve_by-requires-clause-relevance : goal.solve_by-requires-clause-relevance
-solve_by-requires-clause-relevance c = c.requires.relevance
-
-pub solve_by-requires-clause-order : goal.solve_by-requires-clause-order
-solve_by-requires-clause-order c = c.requires.order
-
-pub solve_by-requires-clause-plans : goal.solve_by-requires-clause-plans
-solve_by-requires-clause-plans c = c.in_ok-plans.ensures.plans.decisions
-
-pub solve_by-requires-clause-worths : goal.solve_by-requires-clause-worths
-solve_by-requires-clause-worths c = c.in_ok-plans.ensures.plans.worths
-
-pub solve_by-requires-clause-ready : goal.solve_by-requires-clause-ready
-solve_by-requires-clause-ready c = (c.in_ok-plans.plans.size.cells, c.in_ok-spaces.ensures, c.in_ok-plans.ensures.room.run)
-
 pub returns-in_err-solved-clause-rows : goal.returns-in_err-solved-clause-rows
 returns-in_err-solved-clause-rows c = solver_out_of_memory (limits_pass c.args.diagram.now c.args.node) _ c.from_residual-in_err-solved.ensures
 
@@ -153,4 +112,22 @@ returns-clause-plans c = c.in_ok-plans.ensures.further
 
 pub returns-clause-ready : goal.returns-clause-ready
 returns-clause-ready c =
-    (c.in_ok-plans.plans.size.cells, subst (AreReady c.in_ok-plans.plans.size.cells) (sym c.in_ok-solved.ensures.again) c.in_ok-spaces.ensures, c.in_ok-plans.ensures.room.given)
+    (c.in_ok-plans.plans.size.cells, c.in_ok-solved.ensures.ready, c.in_ok-plans.ensures.room.given)
+
+pub solve_planned-requires-clause-bound : goal.solve_planned-requires-clause-bound
+solve_planned-requires-clause-bound c = c.in_ok-keep_bound.ensures.rows
+
+pub solve_planned-requires-clause-relevance : goal.solve_planned-requires-clause-relevance
+solve_planned-requires-clause-relevance c = c.requires.relevance
+
+pub solve_planned-requires-clause-order : goal.solve_planned-requires-clause-order
+solve_planned-requires-clause-order c = c.requires.order
+
+pub solve_planned-requires-clause-plans : goal.solve_planned-requires-clause-plans
+solve_planned-requires-clause-plans c = c.in_ok-plans.ensures.plans
+
+pub solve_planned-requires-clause-room : goal.solve_planned-requires-clause-room
+solve_planned-requires-clause-room c = c.in_ok-plans.ensures.room.run
+
+pub solve_planned-requires-clause-limit : goal.solve_planned-requires-clause-limit
+solve_planned-requires-clause-limit c = c.in_ok-plans.ensures.limit

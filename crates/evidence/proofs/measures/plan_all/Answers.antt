@@ -1,34 +1,13 @@
-use Rattle.size_precheck.specs.Sizes.{run_plans}
-use borrow.Author.Count.{falls}
+use Rattle.size_precheck.specs.Sizes.{IsSizeOfAll, run_plans, utility_list}
+use Rattle.std.proofs.lemmas.List.{append_assoc}
 use Rattle.std.proofs.lemmas.Result.{IfOk-from_err}
-use Rattle.std.proofs.Common.{◌∙◌, ◌+◌, None, arith, length, slice_index_or, sym, subst, ap, ◌<◌, ◌≡◌}
-use Rattle.evidence.specs.Plans.{IsPlanIf}
-use Rattle.evidence.proofs.Listed.{at_more, long_more}
-use Rattle.evidence.proofs.Measured.{counted_first, counted_next, Counted, size_few}
+use Rattle.std.proofs.Common.{[], ◌∷◌, ◌++◌, None, Some, map, subst}
+use Rattle.evidence.specs.Sizes.{plan_given}
+use Rattle.evidence.proofs.Measured.{size_few, size_push}
 use Rattle.evidence.proofs.measures.plan_all.Goals as goal
 
 pub plan_run-requires : goal.plan_run-requires
 plan_run-requires c = c.orders_list_decisions.ensures c.args.diagram.now.nodes c.args.order.now c.requires.order
-
-pub loop-v-init : goal.loop-v-init
-loop-v-init c = (
-  counted_first c.args.diagram.now.nodes c.args.order.now c.args.node c.in_ok-run.run'.size c.in_ok-alone.first c.in_ok-run.ensures.size c.in_ok-alone.ensures.size,
-  ap (λ l. length l) c.in_ok-utilities.ensures.items,
-  (λ u l. absurd (omega (arith, l))),
-)
-
-pub loop-v-preserved : goal.loop-v-preserved
-loop-v-preserved c =
-    let nodes = c.args.diagram.now.nodes in
-    let x = c.args.node in
-    let before = c.loop-v.utilities.items in
-    let count = c.loop-v.invariant.1 in (
-      counted_next nodes c.args.order.now x c.loop-v.v c.loop-v.size c.in_ok-plan.more c.loop-v.invariant.0 c.in_ok-plan.ensures.size,
-      ap (λ l. length l) c.in_ok-push.ensures.items ∙ long_more before c.in_ok-plan.plan ∙ ap (λ n. n + 1) count,
-      (λ u l.
-          subst (λ items. IsPlanIf nodes x u (slice_index_or items u None)) (sym c.in_ok-push.ensures.items)
-          (at_more (IsPlanIf nodes x) before c.in_ok-plan.plan None (λ v m. c.loop-v.invariant.2 v (omega (arith, m, count))) (λ n e. subst (λ v. IsPlanIf nodes x v c.in_ok-plan.plan) (sym (e ∙ count)) c.in_ok-plan.ensures.plan) u (omega (arith, l, count)))),
-    )
 
 pub returns-in_err-run-clause-plans : goal.returns-in_err-run-clause-plans
 returns-in_err-run-clause-plans c = IfOk-from_err _ _ c.from_residual.ensures.0
@@ -57,58 +36,25 @@ returns-in_err-utilities-clause-further c = IfOk-from_err _ _ c.from_residual-in
 pub returns-in_err-utilities-clause-size : goal.returns-in_err-utilities-clause-size
 returns-in_err-utilities-clause-size c = IfOk-from_err _ _ c.from_residual-in_err-utilities.ensures.0
 
-pub returns-in_err-plan-clause-plans : goal.returns-in_err-plan-clause-plans
-returns-in_err-plan-clause-plans c = IfOk-from_err _ _ c.from_residual-in_err-plan.ensures.0
+pub add_plan-requires-clause-few : goal.add_plan-requires-clause-few
+add_plan-requires-clause-few c = size_few c.args.diagram.now.nodes (run_plans c.args.diagram.now.nodes c.args.order.now) c.in_ok-run.run'.size c.in_ok-run.ensures.size
 
-pub returns-in_err-plan-clause-further : goal.returns-in_err-plan-clause-further
-returns-in_err-plan-clause-further c = IfOk-from_err _ _ c.from_residual-in_err-plan.ensures.0
-
-pub returns-in_err-plan-clause-size : goal.returns-in_err-plan-clause-size
-returns-in_err-plan-clause-size c = IfOk-from_err _ _ c.from_residual-in_err-plan.ensures.0
-
-pub returns-in_err-push-clause-plans : goal.returns-in_err-push-clause-plans
-returns-in_err-push-clause-plans c = IfOk-from_err _ _ c.from_residual-in_err-push.ensures.0
-
-pub returns-in_err-push-clause-further : goal.returns-in_err-push-clause-further
-returns-in_err-push-clause-further c = IfOk-from_err _ _ c.from_residual-in_err-push.ensures.0
-
-pub returns-in_err-push-clause-size : goal.returns-in_err-push-clause-size
-returns-in_err-push-clause-size c = IfOk-from_err _ _ c.from_residual-in_err-push.ensures.0
-
-pub add_utility-requires-clause-node : goal.add_utility-requires-clause-node
-add_utility-requires-clause-node c = c.requires.within
-
-pub add_utility-requires-clause-kind : goal.add_utility-requires-clause-kind
-add_utility-requires-clause-kind c = c.requires.kind
-
-pub add_utility-requires-clause-within : goal.add_utility-requires-clause-within
-add_utility-requires-clause-within c = subst (λ n. c.loop-v.v < n) c.count-v-end.ensures.count c.loop-v-test.true
-
-pub add_utility-requires-clause-few : goal.add_utility-requires-clause-few
-add_utility-requires-clause-few c = c.loop-v.invariant.0.few
-
-pub loop-v-smaller : goal.loop-v-smaller
-loop-v-smaller c = falls _ _ c.loop-v-test.true
+pub add_utilities-requires-clause-few : goal.add_utilities-requires-clause-few
+add_utilities-requires-clause-few c =
+    let nodes = c.args.diagram.now.nodes in
+    size_few nodes _ c.in_ok-alone.size (size_push nodes (run_plans nodes c.args.order.now) (plan_given c.args.node None) c.in_ok-run.run'.size c.in_ok-alone.size c.in_ok-run.ensures.size c.in_ok-alone.ensures.size)
 
 pub returns-clause-plans : goal.returns-clause-plans
 returns-clause-plans c = record { decisions = c.in_ok-run.ensures.plans; worths = c.in_ok-run.ensures.worths }
 
-pub add_plan-requires-clause-few : goal.add_plan-requires-clause-few
-add_plan-requires-clause-few c = size_few c.args.diagram.now.nodes (run_plans c.args.diagram.now.nodes c.args.order.now) c.in_ok-run.run'.size c.in_ok-run.ensures.size
-
 pub returns-clause-further : goal.returns-clause-further
-returns-clause-further c =
-    let end : c.loop-v.v ≡ length c.args.diagram.now.nodes = omega (arith, c.loop-v-test.false, c.loop-v.auto.v-end, c.count-v-end.ensures.count) in
-    record {
-      alone = c.in_ok-alone.ensures.plan;
-      utilities = record {
-        count = c.loop-v.invariant.1 ∙ end;
-        each = λ v l. c.loop-v.invariant.2 v (omega (arith, l, end));
-      };
-    }
+returns-clause-further c = record { alone = c.in_ok-alone.ensures.plan; utilities = c.in_ok-utilities.ensures.plans }
 
 pub returns-clause-size : goal.returns-clause-size
 returns-clause-size c =
-    let end : c.loop-v.v ≡ length c.args.diagram.now.nodes = omega (arith, c.loop-v-test.false, c.loop-v.auto.v-end, c.count-v-end.ensures.count) in
-    let counted = subst (λ n. Counted c.args.diagram.now.nodes c.args.order.now c.args.node n c.loop-v.size) end c.loop-v.invariant.0 in
-    counted.is_size
+    let nodes = c.args.diagram.now.nodes in
+    let run = run_plans nodes c.args.order.now in
+    let alone = plan_given c.args.node None in
+    let utilities = map (λ u. plan_given c.args.node (Some u)) (utility_list nodes) in
+    let before = size_push nodes run alone c.in_ok-run.run'.size c.in_ok-alone.size c.in_ok-run.ensures.size c.in_ok-alone.ensures.size in
+    subst (λ plans. IsSizeOfAll nodes plans c.in_ok-utilities.size) (append_assoc run (alone ∷ []) utilities) (c.in_ok-utilities.ensures.size (run ++ alone ∷ []) before)
