@@ -210,6 +210,18 @@ cut_high held high turn nought one r part up_to num_is den_is h k = record {
               (e.1 (subst (λ z. pos 0 ≤ℤ between (pos (nat_abs nought)) z num den) low_is (subst (λ z. pos 0 ≤ℤ between z one num den) high_is x))))),
         )
 
+-- where it is not below nought at 0 and 1, it never is
+pub cut_none : (held : Held) (nought one : ℤ) → IsRange held → pos 0 ≤ℤ nought → pos 0 ≤ℤ one → Narrows (IsNotBelow nought one) held held
+cut_none held nought one r h k = record { range = r; within = λ num den p l. ((λ x. (x, all num den l)), (λ x. x.0)) }
+  where
+    natural : (a b : ℤ) (m n : ℕ) → pos 0 ≤ℤ a → pos 0 ≤ℤ b → pos 0 ≤ℤ ((b *ℤ pos m) +ℤ (a *ℤ pos n))
+    natural (pos a) (pos b) m n h k = omega (arith, ints)
+    natural (negsuc a) b m n h k = absurd (omega (arith, ints, h))
+    natural (pos a) (negsuc b) m n h k = absurd (omega (arith, ints, k))
+
+    all : (num den : ℕ) → num ≤ den → IsNotBelow nought one num den
+    all num den l = let m = minus num den l in subst (λ z. pos 0 ≤ℤ ((one *ℤ pos num) +ℤ (nought *ℤ z))) (sym m.2) (natural nought one num m.0 h k)
+
 -- ---- the greater and the lesser of two fractions
 pub greater_of : (a b c : Part) → IsPart a → IsPart b → a.num * b.den ≤ b.num * a.den → c ≡ b → IsPart c × ((num den : ℕ) → IsFrom c num den ↔ (IsFrom a num den × IsFrom b num den))
 greater_of a b c ha hb l e = subst (λ d. IsPart d × ((num den : ℕ) → IsFrom d num den ↔ (IsFrom a num den × IsFrom b num den))) (sym e)

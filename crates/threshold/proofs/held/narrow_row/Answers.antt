@@ -1,8 +1,8 @@
-use Rattle.std.proofs.Common.{ℕ, ◌<◌, sym, subst, arith, FitsSigned}
+use Rattle.std.proofs.Common.{◌<◌, ℕ, sym, subst, arith, FitsSigned}
 use Rattle.std.specs.Int.{w128}
 use Rattle.std.proofs.lemmas.Int.{to_z-of_z}
 use Rattle.threshold.specs.Held.{HoldsSomewhere, IsNotBelow, Narrows, lead_in}
-use Rattle.threshold.proofs.Narrowing.{narrows_more}
+use Rattle.threshold.proofs.Narrowing.{narrows_more, narrows_none}
 use Rattle.threshold.proofs.held.narrow_row.Goals as goal
 
 pub narrow-held-requires-clause-somewhere : goal.narrow-held-requires-clause-somewhere
@@ -29,3 +29,6 @@ returns c =
     let t = c.loop-state-test.false in
     let end = c.loop-state.auto.state-end in
     subst (λ n. Narrows (λ num den. (s : ℕ) → s < n → IsNotBelow (lead_in c.args.nought.now c.args.states c.args.choice s c.args.line) (lead_in c.args.one.now c.args.states c.args.choice s c.args.line) num den) c.args.held c.loop-state.held) (omega arith) c.loop-state.invariant
+
+pub loop-state-init : goal.loop-state-init
+loop-state-init c = narrows_none (λ s. IsNotBelow (lead_in c.args.nought.now c.args.states c.args.choice s c.args.line) (lead_in c.args.one.now c.args.states c.args.choice s c.args.line)) c.args.held c.requires.range

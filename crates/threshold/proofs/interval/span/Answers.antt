@@ -1,11 +1,13 @@
-use Rattle.std.proofs.Common.{subst, pos}
+use Rattle.std.proofs.Common.{◌≡◌, ◌<◌, ◌≤◌, ◌^◌, ◌≤ℤ◌, subst, pos, ℕ, ℤ, sym, arith}
+use Rattle.std.proofs.lemmas.Int.{ints}
+use Rattle.std.proofs.lemmas.Result.{IfOk-from_err}
 use Rattle.maid_model.specs.Answers.{IsFraction, answered}
+use Rattle.maid_model.specs.Diagrams.{greatest_number}
 use Rattle.maid_model.specs.Tables.{chance_total}
 use Rattle.threshold.specs.declared.weights.Place.{Place}
 use Rattle.threshold.specs.Weights.{IsCell}
 use Rattle.threshold.proofs.Assembling.{somewhere, span_is}
-use Rattle.threshold.proofs.Tables.{is_place}
-use Rattle.std.proofs.lemmas.Result.{IfOk-from_err}
+use Rattle.threshold.proofs.Tables.{is_place, weight_at_most}
 use Rattle.threshold.proofs.interval.span.Goals as goal
 
 pub hold_answers-requires : goal.hold_answers-requires
@@ -91,3 +93,29 @@ returns-in_err-held-clause-only c = IfOk-from_err _ _ c.from_residual-in_err-hel
 
 pub returns-in_err-held-clause-perfect : goal.returns-in_err-held-clause-perfect
 returns-in_err-held-clause-perfect c = IfOk-from_err _ _ c.from_residual-in_err-held.ensures.0
+
+small : (w n : ℕ) (z : ℤ) → pos w ≡ z → z ≤ℤ pos n → n ≤ greatest_number → w < 2 ^ 127
+small w n z e l h = omega (arith, ints, e, l, h)
+
+pub fraction-requires-clause-den : goal.fraction-requires-clause-den
+fraction-requires-clause-den c = subst (λ n. 0 < n) (sym c.weight_total.ensures) (c.weight_there.ensures.diagram.tables.positive c.args.node c.requires.chance)
+
+pub fraction-requires-clause-num : goal.fraction-requires-clause-num
+fraction-requires-clause-num c =
+    let d = c.args.diagram.now in
+    let is = c.weight_there.ensures.diagram in
+    let place : Place = record { node = c.args.node; row = c.args.row; state = c.args.state } in
+    let cell : IsCell d.nodes place = record { kind = c.requires.chance; row = c.requires.row; state = c.requires.state } in
+    small c.weight_there.result (chance_total d.nodes c.args.node) _ c.weight_there.ensures.weight (weight_at_most d.nodes place is.tables cell) (is.limits.totals c.args.node c.requires.chance)
+
+pub fraction-requires-2-clause-den : goal.fraction-requires-2-clause-den
+fraction-requires-2-clause-den c = c.in_ok-held.ensures.range.low.positive
+
+pub fraction-requires-2-clause-num : goal.fraction-requires-2-clause-num
+fraction-requires-2-clause-num c = c.in_ok-held.ensures.range.low.room
+
+pub fraction-requires-3-clause-den : goal.fraction-requires-3-clause-den
+fraction-requires-3-clause-den c = c.in_ok-held.ensures.range.high.positive
+
+pub fraction-requires-3-clause-num : goal.fraction-requires-3-clause-num
+fraction-requires-3-clause-num c = c.in_ok-held.ensures.range.high.room

@@ -1,9 +1,14 @@
-use Rattle.std.proofs.Common.{◌≡◌, ◌∙◌, ℕ, ℤ, List, ◌+◌, ◌*◌, ◌<◌, ap, subst, pos, arith, to_z}
+use Rattle.std.proofs.Common.{◌≡◌, ◌∙◌, ◌+◌, ◌*◌, ◌<◌, ◌≤◌, ℕ, ℤ, List, ap, subst, pos, arith, to_z, sym}
 use Rattle.std.specs.Int.{w128}
 use Rattle.std.proofs.lemmas.Int.{to_z_pos}
 use Rattle.std.proofs.lemmas.Result.{IfOk-from_err}
-use Rattle.maid_model.specs.Nodes.{states_of}
-use Rattle.threshold.specs.Weights.{new_cells}
+use Rattle.arc_laws.proofs.ControlLaws.{chance_within}
+use Rattle.maid_model.specs.Diagrams.{IsDiagram}
+use Rattle.maid_model.specs.Nodes.{states_of, rows_of}
+use Rattle.maid_model.specs.Views.{DiagramView}
+use Rattle.maid_model.specs.declared.limits.TheConstants.{MOST_CELLS}
+use Rattle.threshold.specs.declared.weights.Place.{Place}
+use Rattle.threshold.specs.Weights.{new_cells, IsCell}
 use Rattle.threshold.proofs.Tables.{cells_more}
 use Rattle.threshold.proofs.weights.new_table.Goals as goal
 
@@ -55,3 +60,21 @@ returns-in_err-cells c = IfOk-from_err _ _ c.from_residual.ensures.0
 
 pub returns-in_err-push : goal.returns-in_err-push
 returns-in_err-push c = IfOk-from_err _ _ c.from_residual-in_err-push.ensures.0
+
+-- the table has few cells
+few : (d : DiagramView) (place : Place) (rows states : ℕ) → IsDiagram d → IsCell d.nodes place → rows ≡ rows_of d.nodes place.node → states ≡ states_of d.nodes place.node → rows * states ≤ MOST_CELLS
+few d place rows states is cell e f = subst (λ n. n ≤ MOST_CELLS) (sym (λ i. e i * f i)) (is.limits.cells place.node (chance_within d.nodes place.node cell.kind))
+
+pub states-states-requires : goal.states-states-requires
+states-states-requires c = chance_within c.args.diagram.now.nodes c.args.place.node c.requires.cell.kind
+
+pub rows-rows-requires : goal.rows-rows-requires
+rows-rows-requires c = chance_within c.args.diagram.now.nodes c.args.place.node c.requires.cell.kind
+
+pub overflow_mul-rows : goal.overflow_mul-rows
+overflow_mul-rows c = record { fits = omega (arith, few c.args.diagram.now c.args.place c.rows-rows.result c.states-states.result c.states-states.ensures.diagram c.requires.cell c.rows-rows.ensures c.states-states.ensures.states) }
+
+pub loop-row-init : goal.loop-row-init
+loop-row-init c =
+    let none : 0 ≡ 0 * states_of c.args.diagram.now.nodes c.args.place.node = omega arith in
+    c.in_ok-cells.ensures.items ∙ ap (new_cells c.args.diagram.now.nodes c.args.place c.args.scales) none
