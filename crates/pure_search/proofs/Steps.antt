@@ -120,10 +120,10 @@ pub counts_some : (nodes : List NodeView) → ((v : ℕ) → 0 < states_of nodes
 counts_some nodes h = all_of (counts_for nodes) (positive_counts nodes h (decisions_of nodes))
 
 -- ---- what a call wrote into a vector
-pub written : (n : ℕ) (new old : List ℕ) → length new ≡ length old → n ≡ length old → take n (new ++ drop (length new) old) ≡ new
+pub written : {X : Type 0} (n : ℕ) (new old : List X) → length new ≡ length old → n ≡ length old → take n (new ++ drop (length new) old) ≡ new
 written n new old e f = ap (λ k. take k (new ++ drop (length new) old)) (f ∙ sym e) ∙ go new (drop (length new) old)
   where
-    go : (xs ys : List ℕ) → take (length xs) (xs ++ ys) ≡ xs
+    go : {X : Type 0} (xs ys : List X) → take (length xs) (xs ++ ys) ≡ xs
     go [] ys = refl
     go (x ∷ xs) ys = ap (λ l. x ∷ l) (go xs ys)
 

@@ -1,5 +1,5 @@
 -- Words of the search, for contracts between its functions alone.
-use Rattle.std.specs.Prelude.{◌≡◌, ℕ, ◌+◌, ◌-◌, ◌*◌, ◌^◌, ◌<◌, ◌≤◌, List, [], ◌∷◌, map, length, take, drop, Bool, true, false, ◌↔◌, None, slice_index, slice_index_or, ◌==◌, if◌then◌else◌, ℤ, pos, negsuc, ◌≤ℤ◌, All}
+use Rattle.std.specs.Prelude.{◌≡◌, ℕ, ◌+◌, ◌-◌, ◌*◌, ◌^◌, ◌<◌, ◌≤◌, List, [], ◌∷◌, ◌++◌, map, length, take, drop, Bool, true, false, ◌↔◌, None, slice_index, slice_index_or, ◌==◌, if◌then◌else◌, ℤ, pos, negsuc, ◌≤ℤ◌, All}
 use Rattle.std.specs.Global.{Vec}
 use Rattle.maid_model.specs.declared.answers.Row.{Row}
 use Rattle.maid_model.specs.declared.limits.TheConstants.{MOST_PROFILES}
@@ -104,6 +104,17 @@ pub record IsGainTable
 -- the table that the code holds is that
 abbrev pub IsGainTableOf : List NodeView → ℕ → Table → Type 0
 IsGainTableOf nodes agent table = IsGainTable nodes agent table.keys.items table.gains.items
+
+-- the rows of those lists stand behind all that the table had
+pub record AddsRows
+    (nodes : List NodeView) (agent : ℕ) (lists : List (List ℕ)) (old new : Table) : Type 0 where
+  pub keys_are : new.keys.items ≡ old.keys.items ++ map (key_of nodes agent) lists
+  pub gains_are : new.gains.items ≡ old.gains.items ++ map (part_gain nodes agent) lists
+  pub within : All (λ key. key < length (choice_lists nodes)) (map (key_of nodes agent) lists)
+
+-- the row of one list of choices stands behind it
+abbrev pub AddsRow : List NodeView → ℕ → List ℕ → Table → Table → Type 0
+AddsRow nodes agent choices old new = AddsRows nodes agent (choices ∷ []) old new
 
 -- the part of the agent's scope
 abbrev pub part_of_agent : DiagramView → ℕ → DiagramView

@@ -3,9 +3,9 @@
 ghost use Rattle.std.specs.Prelude.{◌≡◌, ◌<◌, ◌+◌, IfOk, OnOk};
 ghost use Rattle.maid_model.specs.Nodes.{decisions_of};
 ghost use Rattle.maid_model.specs.Scopes.{scope_for};
-ghost use Rattle.maid_model.specs.Worlds.{IsWorld};
+ghost use Rattle.maid_model.specs.Worlds.{IsWorld, worlds_from};
 ghost use Rattle.pure_search.specs.Following.{FollowsChoices};
-ghost use Rattle.pure_search.specs.Games.{IsGameOf, IsSearched, MarksBest, MarksStable, counts_for, key_of, IsGainTableOf, list_count, part_of_agent};
+ghost use Rattle.pure_search.specs.Games.{AddsRow, AddsRows, IsGameOf, IsSearched, MarksBest, MarksStable, counts_for, key_of, IsGainTableOf, list_count, part_of_agent};
 
 use crate::answering::profile_of;
 use crate::following::follow;
@@ -62,6 +62,74 @@ fn sum_under(
     AgentSum::new(alloc, &part.diagram, rules, agent)
 }
 
+/// Appends the row of the choices to the table. The sum is the one under these choices.
+fn add_row(
+    diagram: &Diagram,
+    game: &Game,
+    agent: usize,
+    part: &SubDiagram,
+    choices: &[usize],
+    sum: &mut AgentSum,
+    table: &mut Table,
+) -> Result<(), AllocError>
+    requires game { IsGameOf diagram.now.nodes game.now }
+    requires agent { agent < diagram.now.agents }
+    requires bound { IsSearched diagram.now }
+    requires part { part.now.diagram ≡ part_of_agent diagram.now agent }
+    requires nodes { part.now.nodes.items ≡ scope_for diagram.now.nodes agent }
+    requires choices { IsWorld (counts_for diagram.now.nodes) choices.now }
+    requires sum { FollowsChoices diagram.now.nodes agent choices.now sum.old }
+    ensures row { OnOk result (AddsRow diagram.now.nodes agent choices.now table.old table.new) }
+    ensures sum { sum.new ≡ sum.old }
+{
+    let _count = diagram.count();
+    let key = key_of(agent, &game.counts, &game.owners, choices);
+    let gain = sum.gain(&part.diagram);
+    table.keys.push(key)?;
+    table.gains.push(gain)?;
+    Ok(())
+}
+
+/// Appends the rows of the choices and of all lists after them to the table. The choices change on the way.
+fn add_rows(
+    alloc: Global,
+    diagram: &Diagram,
+    game: &Game,
+    agent: usize,
+    part: &SubDiagram,
+    choices: &mut [usize],
+    table: &mut Table,
+) -> Result<(), AllocError>
+    requires game { IsGameOf diagram.now.nodes game.now }
+    requires agent { agent < diagram.now.agents }
+    requires bound { IsSearched diagram.now }
+    requires part { part.now.diagram ≡ part_of_agent diagram.now agent }
+    requires nodes { part.now.nodes.items ≡ scope_for diagram.now.nodes agent }
+    requires choices { IsWorld (counts_for diagram.now.nodes) choices.old }
+    ensures { OnOk result (AddsRows diagram.now.nodes agent
+        (worlds_from (counts_for diagram.now.nodes) choices.old) table.old table.new) }
+{
+    let mut before = Vec::from_slice(alloc, choices)?;
+    let mut sum = sum_under(alloc, diagram, game, agent, part, choices)?;
+    'profiles: loop {
+        add_row(diagram, game, agent, part, choices, &mut sum, table)?;
+        before.copy_from_slice(choices);
+        if !next_choices(&game.counts, choices) {
+            return Ok(());
+        }
+        follow(
+            alloc,
+            diagram,
+            &game.decisions,
+            agent,
+            part,
+            &before,
+            choices,
+            &mut sum,
+        )?;
+    }
+}
+
 /// The table of the agent.
 fn table_for(
     alloc: Global,
@@ -75,30 +143,14 @@ fn table_for(
     ensures { IfOk result (IsGainTableOf diagram.now.nodes agent) }
 {
     let _count = diagram.count();
-    let part = part_for(alloc, diagram, agent)?;
     let mut choices = first_choices(alloc, &game.counts)?;
-    let mut before = Vec::from_slice(alloc, &choices)?;
-    let mut sum = sum_under(alloc, diagram, game, agent, &part, &choices)?;
-    let mut keys = Vec::new(alloc);
-    let mut gains = Vec::new(alloc);
-    'profiles: loop {
-        gains.push(sum.gain(&part.diagram))?;
-        keys.push(key_of(agent, &game.counts, &game.owners, &choices))?;
-        before.copy_from_slice(&choices);
-        if !next_choices(&game.counts, &mut choices) {
-            return Ok(Table { keys, gains });
-        }
-        follow(
-            alloc,
-            diagram,
-            &game.decisions,
-            agent,
-            &part,
-            &before,
-            &choices,
-            &mut sum,
-        )?;
-    }
+    let part = part_for(alloc, diagram, agent)?;
+    let mut table = Table {
+        keys: Vec::new(alloc),
+        gains: Vec::new(alloc),
+    };
+    add_rows(alloc, diagram, game, agent, &part, &mut choices, &mut table)?;
+    Ok(table)
 }
 
 /// Takes the marks from the lists of choices that are not best for the agent. All are best for one that has no choice.

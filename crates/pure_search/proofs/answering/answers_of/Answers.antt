@@ -65,3 +65,12 @@ returns-in_err-push c = IfOk-from_err _ _ c.from_residual-in_err-push.ensures.0
 
 pub loop-decision-smaller : goal.loop-decision-smaller
 loop-decision-smaller c = falls _ _ c.loop-decision-test.true
+
+pub loop-decision-init : goal.loop-decision-init
+loop-decision-init c = (ap (λ l. l ++ answers_of c.args.diagram.now.nodes c.args.decisions.now c.args.choices.now) c.in_ok-answers.ensures.items, omega (arith, c.requires.len))
+
+pub rows-requires : goal.rows-requires
+rows-requires c = c.requires.decisions c.loop-decision.decision-index 0 c.loop-decision-test.true
+
+pub slice_bounds-rows_of-count : goal.slice_bounds-rows_of-count
+slice_bounds-rows_of-count c = omega arith

@@ -1,4 +1,6 @@
-use Rattle.std.proofs.Common.{◌≡◌, ◌∙◌, ◌+◌, ◌-◌, ◌<◌, All, ap, drop, get_or, length, refl, subst, sym, take}
+use Rattle.std.proofs.Common.{◌≡◌, ◌∙◌, ◌+◌, ◌-◌, ◌<◌, All, ap, arith, drop, get_or, length, refl, subst, sym, take}
+use Rattle.std.proofs.lemmas.Result.{IfOk-from_err}
+use borrow.Author.Count.{falls}
 use Rattle.maid_model.specs.Parts.{part_of, place_in, rules_in}
 use Rattle.maid_model.specs.Profiles.{IsProfile}
 use Rattle.maid_model.specs.Views.{DiagramView}
@@ -7,7 +9,7 @@ use Rattle.tree_checker.specs.AgentSums.{IsAgentSum}
 use Rattle.pure_search.specs.Following.{IsRuleOfDecision, TakesRuleIfKept, rule_taking}
 use Rattle.pure_search.proofs.Agents.{scope_kept}
 use Rattle.pure_search.proofs.Answered.{pure_choices}
-use Rattle.pure_search.proofs.Chosen.{decisions_known}
+use Rattle.pure_search.proofs.Chosen.{decisions_known, rows_counted}
 use Rattle.pure_search.proofs.Followed.{FollowsSoFar, follow_all, follow_none, follow_put, follow_rule, follow_same}
 use Rattle.pure_search.proofs.following.follow.Goals as goal
 use Rattle.pure_search.proofs.following.follow.Goals.{then-not-are_same+in_ok-take_choices, else-not-are_same}
@@ -79,3 +81,36 @@ returns c =
           c.loop-decision.decision-index c.loop-decision.start c.loop-decision.sum so c.loop-decision-test.false profile
           ∙ (λ i. rules_in nodes (rules_of nodes (c.requires.decisions i) c.args.choices.now) (c.requires.nodes i));
     }
+
+pub bounds-decisions-decision-index : goal.bounds-decisions-decision-index
+bounds-decisions-decision-index c = c.loop-decision-test.true
+
+pub slice_bounds-these-count : goal.slice_bounds-these-count
+slice_bounds-these-count c = omega arith
+
+pub slice_bounds-these-start : goal.slice_bounds-these-start
+slice_bounds-these-start c = omega arith
+
+pub slice_bounds-these-end : goal.slice_bounds-these-end
+slice_bounds-these-end c =
+    omega (arith, rows_counted c.args.diagram.now.nodes c.args.decisions.now c.loop-decision.decision-index c.loop-decision-test.true, c.rows.ensures, c.loop-decision.invariant.count)
+
+pub slice_bounds-are_same-count : goal.slice_bounds-are_same-count
+slice_bounds-are_same-count c = omega arith
+
+pub slice_bounds-are_same-start : goal.slice_bounds-are_same-start
+slice_bounds-are_same-start c = omega arith
+
+pub slice_bounds-are_same-end : goal.slice_bounds-are_same-end
+slice_bounds-are_same-end c =
+    omega (arith, rows_counted c.args.diagram.now.nodes c.args.decisions.now c.loop-decision.decision-index c.loop-decision-test.true, c.rows.ensures, c.loop-decision.invariant.count, c.requires.before.len, c.requires.choices.len)
+
+pub take_choices-requires-clause-sum : goal.take_choices-requires-clause-sum
+take_choices-requires-clause-sum c =
+    subst (λ ns. IsAgentSum ns c.loop-decision.sum) (sym (ap (λ (d : DiagramView). d.nodes) c.requires.part ∙ ap (part_of c.args.diagram.now.nodes) (sym c.requires.nodes))) c.loop-decision.invariant.ready
+
+pub loop-decision-smaller : goal.loop-decision-smaller
+loop-decision-smaller c = falls _ _ c.loop-decision-test.true
+
+pub returns-in_err-take_choices : goal.returns-in_err-take_choices
+returns-in_err-take_choices c = IfOk-from_err _ _ c.from_residual.ensures.0

@@ -1,4 +1,5 @@
-use Rattle.std.proofs.Common.{◌-◌, arith}
+use Rattle.std.proofs.Common.{◌-◌, length, refl, arith}
+use Rattle.maid_model.proofs.Next.{so_far_none}
 use Rattle.pure_search.proofs.Steps.{turn_back, turn_is, turn_more}
 use Rattle.pure_search.proofs.odometer.next_choices.Goals as goal
 
@@ -22,3 +23,18 @@ overflow_sub-counts c = omega (arith, c.requires.each (c.loop-place.place - 1) (
 
 pub overflow_add-choices : goal.overflow_add-choices
 overflow_add-choices c = omega (arith, c.type_inv.counts (c.loop-place.place - 1), c.if-choice-counts.true)
+
+pub loop-place-init : goal.loop-place-init
+loop-place-init c = so_far_none c.args.counts.now c.args.choices.now c.args.choices.now (length c.args.choices.now) c.requires.len refl refl
+
+pub overflow_sub-place : goal.overflow_sub-place
+overflow_sub-place c = c.loop-place-test.true
+
+pub bounds-choices-place-then-choice-counts : goal.bounds-choices-place-then-choice-counts
+bounds-choices-place-then-choice-counts c = omega (arith, c.loop-place-test.true, c.loop-place.invariant.within, c.loop-place.auto.choices)
+
+pub bounds-choices-place-in-loop-place : goal.bounds-choices-place-in-loop-place
+bounds-choices-place-in-loop-place c = omega (arith, c.loop-place-test.true, c.loop-place.invariant.within, c.loop-place.auto.choices)
+
+pub loop-place-smaller : goal.loop-place-smaller
+loop-place-smaller c = omega (arith, c.loop-place-test.true)

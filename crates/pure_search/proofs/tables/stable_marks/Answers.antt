@@ -1,9 +1,15 @@
-use Rattle.std.proofs.Common.{◌≡◌, ◌<◌, arith, sym, subst}
+use Rattle.std.proofs.Common.{◌≡◌, ◌∙◌, ℕ, ◌+◌, ◌<◌, Bool, List, ◌++◌, length, take, drop, arith, sym, subst}
 use Rattle.std.proofs.lemmas.Result.{IfOk-from_err}
 use borrow.Author.Count.{falls}
+use Rattle.maid_model.specs.Views.{NodeView}
 use Rattle.pure_search.specs.Games.{MarksBest}
 use Rattle.pure_search.proofs.Marking.{all_tried, none_tried}
+use Rattle.pure_search.proofs.Steps.{written}
 use Rattle.pure_search.proofs.tables.stable_marks.Goals as goal
+
+-- the marks are those that a call wrote over the old ones
+best_of_written : (nodes : List NodeView) (more agents n : ℕ) (new old : List Bool) → n ≡ length old → MarksBest nodes agents old → MarksBest nodes more new → MarksBest nodes more (take n (new ++ drop (length new) old))
+best_of_written nodes more agents n new old e was is = subst (MarksBest nodes more) (sym (written n new old (is.len ∙ sym was.len) e)) is
 
 pub returns : goal.returns
 returns c =
@@ -33,3 +39,8 @@ returns-in_err-marks c = IfOk-from_err _ _ c.from_residual.ensures.0
 
 pub returns-in_err-keep_best : goal.returns-in_err-keep_best
 returns-in_err-keep_best c = IfOk-from_err _ _ c.from_residual-in_err-keep_best.ensures.0
+
+pub loop-agent-preserved : goal.loop-agent-preserved
+loop-agent-preserved c =
+    best_of_written c.args.diagram.now.nodes (c.loop-agent.agent + 1) c.loop-agent.agent c.loop-agent.marks.len c.keep_best.new.marks c.loop-agent.marks.items c.loop-agent.marks.ok.0 c.loop-agent.invariant
+    c.in_ok-keep_best.ensures
