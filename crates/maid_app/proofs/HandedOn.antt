@@ -1,8 +1,9 @@
 -- What calls tell is handed on: by a `?`, by a line that is told if there is memory for it, and by a whole write.
-use Rattle.std.proofs.Common.{◌≡◌, ◌==◌, ◌∙◌, false, inl, inr, ◌⊎◌, IfErr, OnOk, OnErr, Result, Ok, Err, sym, ap}
+use Rattle.std.proofs.Common.{◌≡◌, ◌==◌, ◌≤◌, ◌∙◌, ℕ, arith, false, inl, inr, ◌⊎◌, IfErr, OnOk, OnErr, Result, Ok, Err, sym, ap}
 use Rattle.std.proofs.lemmas.Result.{err_from_is_err_and}
 use Rattle.std.specs.Result.{IsErr, IsErrAnd}
 use Rattle.std.proofs.lemmas.Bool.{false≢true}
+use Rattle.maid_io.specs.Count.{Rose}
 use Rattle.maid_laws.proofs.Booleans.{eqb_yes}
 use Rattle.maid_app.specs.Status.{code_of}
 use Rattle.maid_app.specs.Told.{IsAfterWriting}
@@ -17,6 +18,10 @@ err_handed r fault P is h = let p = err_from_is_err_and r is.1 in rw (p.1, p.2) 
 pub taken : {E A Part Rises : Type 0} (r : Result (Unit {0}) E) → OnOk r A → OnErr r Part → OnErr r Rises → A ⊎ (Rises × Part)
 taken (Ok x) all part rises = inl all
 taken (Err e) all part rises = inr (rises, part)
+
+-- a count that rose in a later call rose in all
+pub rose_later : (before mid now : ℕ) → before ≤ mid → Rose mid now → Rose before now
+rose_later before mid now kept rose = omega (arith, kept, rose)
 
 -- one status is not another, which has a code of its own
 pub other_status : {So : Type 0} (a b : Status) → code_of a == code_of b ≡ false → a ≡ b → So

@@ -12,6 +12,7 @@ pub mod Moving
 pub mod Nodes
 pub mod OnePlace
 pub mod Outcomes
+pub mod Places
 pub mod Refusals
 pub mod Searches
 pub mod Sights
