@@ -1,5 +1,5 @@
 -- Products over the members of a set in text order, as far as a loop has come.
-use Rattle.std.proofs.Common.{◌≡◌, ◌⊎◌, ◌≤◌, ◌<◌, ◌+◌, ◌-◌, ◌*◌, ◌^◌, ◌&&◌, ℕ, zero, suc, max, Bool, true, false, cond, ltb, filter, List, [], ◌∷◌, refl, sym, ap, subst, ◌∙◌, inl, inr, arith, mul-pos, mul_assoc}
+use Rattle.std.proofs.Common.{◌≡◌, ◌⊎◌, ◌≤◌, ◌<◌, ◌+◌, ◌*◌, ◌^◌, ◌&&◌, ℕ, zero, suc, max, Bool, true, false, cond, ltb, filter, List, [], ◌∷◌, refl, sym, ap, subst, ◌∙◌, inl, inr, arith, mul-pos, mul_assoc}
 use Rattle.std.proofs.Math.Nat.{mul-le-mul_left, pow-le-pow_right}
 use Rattle.std.proofs.lemmas.Bool.Decides.{nat_tests}
 use Rattle.std.specs.List.{range_with_len}
@@ -10,19 +10,6 @@ use Rattle.finite_sums.proofs.Members.{contains_from_among, filter_has, range_ha
 use Rattle.maid_model.specs.Diagrams.{greatest_number}
 use Rattle.maid_model.specs.Scopes.{product_before, PassesInScope}
 
--- ---- ranges
-pub rest_next : (n v : ℕ) → v < n → range_with_len v (n - v) ≡ v ∷ range_with_len (v + 1) (n - (v + 1))
-rest_next n v l = ap (range_with_len v) (one n v l)
-  where
-    one : (n v : ℕ) → v < n → n - v ≡ suc (n - (v + 1))
-    one n v l = omega arith
-
-pub rest_none : (n v : ℕ) → n ≤ v → range_with_len v (n - v) ≡ []
-rest_none n v l = ap (range_with_len v) (none n v l)
-  where
-    none : (n v : ℕ) → n ≤ v → n - v ≡ 0
-    none n v l = omega arith
-
 -- ---- lists that pass a test
 none_pass : (q : ℕ → Bool) (xs : List ℕ) → ((v : ℕ) → Among v xs → q v ≡ false) → filter q xs ≡ []
 none_pass q [] h = refl
@@ -31,6 +18,10 @@ none_pass q (x ∷ xs) h = ap (λ b. cond b (x ∷ filter q xs) (filter q xs)) (
 all_pass : (q : ℕ → Bool) (xs : List ℕ) → ((v : ℕ) → Among v xs → q v ≡ true) → filter q xs ≡ xs
 all_pass q [] h = refl
 all_pass q (x ∷ xs) h = λ i. cond (h x (inl refl) i) (x ∷ all_pass q xs (λ u m. h u (inr m)) i) (filter q xs)
+
+same_pass : (q r : ℕ → Bool) (xs : List ℕ) → ((v : ℕ) → Among v xs → q v ≡ r v) → filter q xs ≡ filter r xs
+same_pass q r [] h = refl
+same_pass q r (x ∷ xs) h = λ i. cond (h x (inl refl) i) (x ∷ same_pass q r xs (λ u m. h u (inr m)) i) (same_pass q r xs (λ u m. h u (inr m)) i)
 
 one_mul : (n : ℕ) → 1 * n ≡ n
 one_mul n = omega arith
@@ -138,12 +129,16 @@ pub record ProductSoFar (f : ℕ → ℕ) (scope : List ℕ) (v product : ℕ) :
   pub none_passes : (n : ℕ) → n ≤ v → product_before f scope n ≤ greatest_number
   pub positive : 0 < product
 
+-- the scope has no node from one number on and before another
+abbrev pub HasNoneBefore : (ℕ → Bool) → ℕ → ℕ → Type 0
+HasNoneBefore p from end = (u : ℕ) → from ≤ u → u < end → p u ≡ true → ⊥
+
 module _ (f : ℕ → ℕ) (p : ℕ → Bool) (count : ℕ) where
   abbrev scope : List ℕ
   scope = filter p (range_with_len 0 count)
 
-  next : (v product : ℕ) → v < count → product ≡ product_before f scope v → product * cond (p v) (f v) 1 ≡ product_before f scope (v + 1)
-  next v product l e = ap (λ x. x * cond (p v) (f v) 1) e ∙ sym (before_next f p v 0 count (omega arith) (omega arith))
+  inside : (u : ℕ) → Among u (filter p (range_with_len 0 count)) → (p u ≡ true) × (u < count)
+  inside u m = let k = among_filter p u (range_with_len 0 count) m in (k.1, omega (arith, (range_within 0 count u k.0).1))
 
   pub product_start : ProductSoFar f (filter p (range_with_len 0 count)) 0 1
   product_start = record {
@@ -152,49 +147,87 @@ module _ (f : ℕ → ℕ) (p : ℕ → Bool) (count : ℕ) where
     positive = omega arith;
   }
 
-  pub product_step : (v product : ℕ) → v < count → 0 < f v → ProductSoFar f (filter p (range_with_len 0 count)) v product → product * cond (p v) (f v) 1 ≤ greatest_number → ProductSoFar f (filter p (range_with_len 0 count)) (v + 1) (product * cond (p v) (f v) 1)
-  product_step v product l positive s small = record {
-    so_far = next v product l s.so_far;
-    none_passes = λ n le. go n (split n v le);
-    positive = mul-pos s.positive (factor (p v));
+  -- what the scope lacks adds nothing to the product
+  product_skip : (from v product : ℕ) → HasNoneBefore p from v → from ≤ v → ProductSoFar f (filter p (range_with_len 0 count)) from product → ProductSoFar f (filter p (range_with_len 0 count)) v product
+  product_skip from v product none l s = record {
+    so_far = s.so_far ∙ sym (same v l (omega arith));
+    none_passes = λ n le. go n le (split n);
+    positive = s.positive;
   }
     where
-      factor : (b : Bool) → 0 < cond b (f v) 1
-      factor true = positive
-      factor false = omega arith
+      split : (n : ℕ) → (n ≤ from) ⊎ (from ≤ n)
+      split n = grind arith
+
+      held : (u n : ℕ) → u < from → from ≤ n → ltb u n ≡ ltb u from
+      held u n a b = grind (arith, nat_tests)
+
+      lacking : (u n : ℕ) → n ≤ u → from ≤ n → ltb u n ≡ ltb u from
+      lacking u n a b = grind (arith, nat_tests)
+
+      where_is : (u n : ℕ) → (u < from) ⊎ ((n ≤ u) ⊎ ((from ≤ u) × (u < n)))
+      where_is u n = grind arith
+
+      tests : (u n : ℕ) → from ≤ n → n ≤ v → p u ≡ true → (u < from) ⊎ ((n ≤ u) ⊎ ((from ≤ u) × (u < n))) → ltb u n ≡ ltb u from
+      tests u n a b t (inl k) = held u n k a
+      tests u n a b t (inr (inl k)) = lacking u n k a
+      tests u n a b t (inr (inr k)) = absurd (none u k.0 (omega (arith, k.1, b)) t)
+
+      same : (n : ℕ) → from ≤ n → n ≤ v → product_before f scope n ≡ product_before f scope from
+      same n a b = ap (nat_product_over f) (same_pass (λ u. ltb u n) (λ u. ltb u from) scope (λ u m. tests u n a b (inside u m).0 (where_is u n)))
+
+      go : (n : ℕ) → n ≤ v → (n ≤ from) ⊎ (from ≤ n) → product_before f scope n ≤ greatest_number
+      go n le (inl k) = s.none_passes n k
+      go n le (inr k) = subst (λ x. x ≤ greatest_number) (sym (same n k le)) (s.none_passes from (omega arith))
+
+  -- the scope's next node
+  next : (v product : ℕ) → v < count → p v ≡ true → product ≡ product_before f scope v → product * f v ≡ product_before f scope (v + 1)
+  next v product l t e = ap (λ x. x * f v) e ∙ ap (λ b. product_before f scope v * cond b (f v) 1) (sym t) ∙ sym (before_next f p v 0 count (omega arith) (omega arith))
+
+  pub product_step : (from v product : ℕ) → HasNoneBefore p from v → from ≤ v → v < count → p v ≡ true → 0 < f v → ProductSoFar f (filter p (range_with_len 0 count)) from product
+      → product * f v ≤ greatest_number → ProductSoFar f (filter p (range_with_len 0 count)) (v + 1) (product * f v)
+  product_step from v product none m l t positive so small = record {
+    so_far = next v product l t s.so_far;
+    none_passes = λ n le. go n (split n v le);
+    positive = mul-pos s.positive positive;
+  }
+    where
+      s : ProductSoFar f scope v product
+      s = product_skip from v product none m so
 
       split : (n v : ℕ) → n ≤ v + 1 → (n ≡ v + 1) ⊎ (n ≤ v)
       split n v le = grind arith
 
       go : (n : ℕ) → (n ≡ v + 1) ⊎ (n ≤ v) → product_before f scope n ≤ greatest_number
-      go n (inl e) = subst (λ x. x ≤ greatest_number) (next v product l s.so_far ∙ ap (λ m. product_before f scope m) (sym e)) small
+      go n (inl e) = subst (λ x. x ≤ greatest_number) (next v product l t s.so_far ∙ ap (λ m. product_before f scope m) (sym e)) small
       go n (inr k) = s.none_passes n k
 
-  pub passes_here : (v product : ℕ) → v < count → ProductSoFar f (filter p (range_with_len 0 count)) v product → greatest_number < product * cond (p v) (f v) 1 → PassesInScope f (filter p (range_with_len 0 count)) v
-  passes_here v product l s wide = record {
-    listed = contains_from_among scope v (filter_has p v (range_with_len 0 count) (range_has 0 count v (omega arith) (omega arith)) (held (p v) refl));
-    passes = subst (λ x. greatest_number < x) (next v product l s.so_far) wide;
+  pub passes_here : (from v product : ℕ) → HasNoneBefore p from v → from ≤ v → v < count → p v ≡ true → ProductSoFar f (filter p (range_with_len 0 count)) from product
+      → greatest_number < product * f v → PassesInScope f (filter p (range_with_len 0 count)) v
+  passes_here from v product none m l t so wide = record {
+    listed = contains_from_among scope v (filter_has p v (range_with_len 0 count) (range_has 0 count v (omega arith) (omega arith)) t);
+    passes = subst (λ x. greatest_number < x) (next v product l t s.so_far) wide;
     first = s.none_passes;
   }
     where
-      small : product ≤ greatest_number
-      small = subst (λ x. x ≤ greatest_number) (sym s.so_far) (s.none_passes v (omega arith))
+      s : ProductSoFar f scope v product
+      s = product_skip from v product none m so
 
-      unchanged : (x most : ℕ) → x ≤ most → ¬ (most < x * 1)
-      unchanged x most h k = omega arith
-
-      held : (b : Bool) → p v ≡ b → p v ≡ true
-      held true e = e
-      held false e = absurd (unchanged product greatest_number small (subst (λ b. greatest_number < product * cond b (f v) 1) e wide))
-
-  pub product_end : (v product : ℕ) → ProductSoFar f (filter p (range_with_len 0 count)) v product → count ≤ v → v ≤ count → (product ≡ nat_product_over f (filter p (range_with_len 0 count))) × (nat_product_over f (filter p (range_with_len 0 count)) ≤ greatest_number)
-  product_end v product s l m = (e, subst (λ x. x ≤ greatest_number) (sym s.so_far ∙ e) (s.none_passes v (omega arith)))
+  pub product_end : (from product : ℕ) → HasNoneBefore p from count → ProductSoFar f (filter p (range_with_len 0 count)) from product
+      → (product ≡ nat_product_over f (filter p (range_with_len 0 count))) × (nat_product_over f (filter p (range_with_len 0 count)) ≤ greatest_number)
+  product_end from product none s = (e, subst (λ x. x ≤ greatest_number) (sym s.so_far ∙ e) (s.none_passes from (omega arith)))
     where
-      inside : (u : ℕ) → u < 0 + count → ltb u v ≡ true
-      inside u h = grind (arith, nat_tests)
+      split : (u : ℕ) → (u < from) ⊎ (from ≤ u)
+      split u = grind arith
+
+      before : (u : ℕ) → u < from → ltb u from ≡ true
+      before u k = grind (arith, nat_tests)
+
+      test : (u : ℕ) → (p u ≡ true) × (u < count) → (u < from) ⊎ (from ≤ u) → ltb u from ≡ true
+      test u h (inl k) = before u k
+      test u h (inr k) = absurd (none u k h.1 h.0)
 
       e : product ≡ nat_product_over f scope
-      e = s.so_far ∙ ap (nat_product_over f) (all_pass (λ u. ltb u v) scope (λ u k. inside u (range_within 0 count u (among_filter p u (range_with_len 0 count) k).0).1))
+      e = s.so_far ∙ ap (nat_product_over f) (all_pass (λ u. ltb u from) scope (λ u k. test u (inside u k) (split u)))
 
 -- a product that passes makes the bound fail, whatever the utilities
 pub fails_by_product : (f : ℕ → ℕ) → ((v : ℕ) → 0 < f v) → (scope : List ℕ) (v decimals utilities : ℕ) → PassesInScope f scope v → greatest_number < nat_product_over f scope * max (10 ^ decimals) utilities

@@ -1,9 +1,8 @@
 -- The greatest absolute values of a scope's utilities, added up node by node.
-use Rattle.std.proofs.Common.{◌≡◌, ◌<◌, ◌+◌, ◌-◌, ◌∙◌, ℕ, Bool, true, false, cond, filter, List, [], ◌∷◌, length, refl, sym, ap, add_assoc, arith, ◌≤◌}
+use Rattle.std.proofs.Common.{◌≡◌, ◌<◌, ◌+◌, ◌-◌, ◌∙◌, ℕ, zero, suc, Bool, true, false, cond, filter, List, [], ◌∷◌, length, refl, sym, ap, add_assoc, arith, ◌≤◌}
 use Rattle.std.specs.List.{range_with_len}
 use Rattle.node_sets.specs.declared.sets.NodeSet.{NodeSet}
-use Rattle.node_sets.specs.Sets.{holds}
-use Rattle.weight_scale.proofs.Bounding.{rest_next, rest_none}
+use Rattle.node_sets.specs.Sets.{holds, IsIn, IsFirstFrom, HasNoneBetween}
 use Rattle.maid_model.specs.Views.{NodeView}
 use Rattle.maid_model.specs.Nodes.{node_at, numbers_of}
 use Rattle.finite_sums.specs.Sums.{nat_sum_over}
@@ -18,6 +17,13 @@ value_at nodes set v = cond (holds set v) (greatest_abs (node_at nodes v).cells)
 -- the sum over these nodes
 abbrev pub greatest_over : List NodeView → NodeSet → List ℕ → ℕ
 greatest_over nodes set vs = nat_sum_over (value_at nodes set) vs
+
+not_held : (set : NodeSet) (v : ℕ) → (IsIn set v → ⊥) → holds set v ≡ false
+not_held set v n = go (holds set v) refl
+  where
+    go : (b : Bool) → holds set v ≡ b → b ≡ false
+    go true e = absurd (n e)
+    go false e = refl
 
 -- a sum over those that pass a test
 sum_filter : (g : ℕ → ℕ) (p : ℕ → Bool) (xs : List ℕ) → nat_sum_over (λ v. cond (p v) (g v) 0) xs ≡ nat_sum_over g (filter p xs)
@@ -34,16 +40,50 @@ sum_filter g p (x ∷ xs) = go (p x) (sum_filter g p xs)
 pub greatest_is : (nodes : List NodeView) (set : NodeSet) → greatest_over nodes set (numbers_of nodes) ≡ greatest_of nodes (members_of nodes set)
 greatest_is nodes set = sum_filter (λ u. greatest_abs (node_at nodes u).cells) (holds set) (numbers_of nodes)
 
--- one more node
-pub greatest_step : (nodes : List NodeView) (set : NodeSet) (v sum whole : ℕ) → v < length nodes → sum + greatest_over nodes set (range_with_len v (length nodes - v)) ≡ whole
-    → (sum + value_at nodes set v) + greatest_over nodes set (range_with_len (v + 1) (length nodes - (v + 1))) ≡ whole
-greatest_step nodes set v sum whole l e =
-    add_assoc sum (value_at nodes set v) (greatest_over nodes set (range_with_len (v + 1) (length nodes - (v + 1))))
-    ∙ ap (λ vs. sum + greatest_over nodes set vs) (sym (rest_next (length nodes) v l)) ∙ e
+-- nodes that add nothing
+noughts : (g : ℕ → ℕ) (a d k : ℕ) → ((w : ℕ) → a ≤ w → w < a + d → g w ≡ 0) → nat_sum_over g (range_with_len a (d + k)) ≡ nat_sum_over g (range_with_len (a + d) k)
+noughts g a zero k h =
+    let e : a ≡ a + 0 = omega arith in
+    let n : 0 + k ≡ k = omega arith in
+    ap (λ m. nat_sum_over g (range_with_len a m)) n ∙ ap (λ x. nat_sum_over g (range_with_len x k)) e
+noughts g a (suc d) k h =
+    let e : a + 1 + d ≡ a + suc d = omega arith in
+    let n : suc d + k ≡ suc (d + k) = omega arith in
+    let rest = nat_sum_over g (range_with_len (a + 1) (d + k)) in
+    let none : 0 + rest ≡ rest = omega arith in
+    ap (λ m. nat_sum_over g (range_with_len a m)) n
+    ∙ ap (λ m. m + rest) (h a (omega arith) (omega arith))
+    ∙ none
+    ∙ noughts g (a + 1) d k (λ w x y. h w (omega arith) (omega arith))
+    ∙ ap (λ x. nat_sum_over g (range_with_len x k)) e
 
--- no more nodes
-pub greatest_end : (nodes : List NodeView) (set : NodeSet) (v sum whole : ℕ) → sum + greatest_over nodes set (range_with_len v (length nodes - v)) ≡ whole → length nodes ≤ v → sum ≡ whole
-greatest_end nodes set v sum whole e l = sym (no_more sum) ∙ ap (λ vs. sum + greatest_over nodes set vs) (sym (rest_none (length nodes) v l)) ∙ e
-  where
-    no_more : (n : ℕ) → n + 0 ≡ n
-    no_more n = omega arith
+module _ (nodes : List NodeView) (set : NodeSet) (from sum whole : ℕ) where
+  lacking : (w : ℕ) → (IsIn set w → ⊥) → value_at nodes set w ≡ 0
+  lacking w n = ap (λ b. cond b (greatest_abs (node_at nodes w).cells) 0) (not_held set w n)
+
+  -- the set's next node
+  pub greatest_step : (v : ℕ) → IsFirstFrom set from v → v < length nodes → sum + greatest_over nodes set (range_with_len from (length nodes - from)) ≡ whole
+      → (sum + greatest_abs (node_at nodes v).cells) + greatest_over nodes set (range_with_len (v + 1) (length nodes - (v + 1))) ≡ whole
+  greatest_step v first l e =
+      let value = greatest_abs (node_at nodes v).cells in
+      let rest = greatest_over nodes set (range_with_len (v + 1) (length nodes - (v + 1))) in
+      let to_come : length nodes - from ≡ (v - from) + suc (length nodes - (v + 1)) = let m = first.not_before in omega (arith, m, l) in
+      let here : from + (v - from) ≡ v = let m = first.not_before in omega (arith, m) in
+      add_assoc sum value rest
+      ∙ ap (λ n. sum + (n + rest)) (sym (ap (λ b. cond b value 0) first.inside))
+      ∙ ap (λ n. sum + n) (sym (
+      ap (λ n. greatest_over nodes set (range_with_len from n)) to_come
+      ∙ noughts (value_at nodes set) from (v - from) (suc (length nodes - (v + 1))) (λ w a b. lacking w (first.first w a (omega (arith, b, here))))
+      ∙ ap (λ x. greatest_over nodes set (range_with_len x (suc (length nodes - (v + 1))))) here))
+      ∙ e
+
+  -- no more nodes
+  pub greatest_end : HasNoneBetween set from (length nodes) → from ≤ length nodes → sum + greatest_over nodes set (range_with_len from (length nodes - from)) ≡ whole → sum ≡ whole
+  greatest_end none l e =
+      let to_come : length nodes - from ≡ (length nodes - from) + 0 = omega arith in
+      let no_more : sum ≡ sum + 0 = omega arith in
+      no_more
+      ∙ ap (λ n. sum + n) (sym (
+      ap (λ n. greatest_over nodes set (range_with_len from n)) to_come
+      ∙ noughts (value_at nodes set) from (length nodes - from) 0 (λ w a b. lacking w (none w a (omega (arith, b, l))))))
+      ∙ e

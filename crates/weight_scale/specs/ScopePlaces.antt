@@ -1,12 +1,11 @@
 -- What the steps of the search for the bound's place promise one another.
-use Rattle.std.specs.Prelude.{◌≡◌, ℕ, ◌<◌, ◌≤◌, ◌*◌, ◌^◌, max, List, filter, Option, MatchOption, if◌then◌else◌}
+use Rattle.std.specs.Prelude.{◌≡◌, ℕ, ◌<◌, ◌≤◌, ◌*◌, ◌^◌, max, List, filter, Option, MatchOption}
 use Rattle.node_sets.specs.declared.sets.NodeSet.{NodeSet}
 use Rattle.node_sets.specs.Sets.{holds}
 use Rattle.finite_sums.specs.Sums.{nat_product_over}
 use Rattle.maid_model.specs.Views.{NodeView, DiagramView}
-use Rattle.maid_model.specs.Nodes.{IsDecision, node_at, numbers_of}
+use Rattle.maid_model.specs.Nodes.{IsDecision, numbers_of}
 use Rattle.maid_model.specs.Bounds.{bound_factor}
-use Rattle.maid_model.specs.Gains.{greatest_abs}
 use Rattle.maid_model.specs.Diagrams.{greatest_number}
 use Rattle.maid_model.specs.Scopes.{goals_of, utilities_for, scope_of, scope_for, scope_bound, scope_product, chance_factor, greatest_of, PassesInScope, FailsFirst}
 use Rattle.weight_scale.specs.declared.scopes.Counted.{Counted}
@@ -23,15 +22,6 @@ members_of nodes set = filter (holds set) (numbers_of nodes)
 abbrev pub factor_by : Counted → List NodeView → ℕ → ℕ
 factor_by ChanceAndDecisions nodes v = bound_factor nodes v
 factor_by ChanceAlone nodes v = chance_factor nodes v
-
--- the same, and 1 where the scope lacks the node
-abbrev pub factor_in : List NodeView → Scope → ℕ → ℕ
-factor_in nodes scope v = if holds scope.nodes v then factor_by scope.counted nodes v else 1
-
--- the greatest absolute value of the node's cells, and 0 where it is none of the scope's utilities
-abbrev pub greatest_in : List NodeView → Scope → ℕ → ℕ
-greatest_in nodes scope v =
-    if holds scope.utilities v then greatest_abs (node_at nodes v).cells else 0
 
 -- S: the greatest absolute value of each of the scope's utilities, added up
 abbrev pub greatest_sum : List NodeView → Scope → ℕ

@@ -8,7 +8,7 @@ ghost use Rattle.maid_model.specs.Relevance.{IsGoal};
 ghost use Rattle.maid_model.specs.Scopes.{scope_for, scope_of};
 ghost use Rattle.weight_scale.specs.Given.{IsPlaceGiven, scope_given};
 ghost use Rattle.weight_scale.specs.Range.{IsWithinRange};
-ghost use Rattle.weight_scale.specs.ScopePlaces.{factor_in, greatest_in, greatest_sum, IsScopeIfDecision, IsScopeFor, IsPlaceIn, HasRoomInScope};
+ghost use Rattle.weight_scale.specs.ScopePlaces.{factor_by, greatest_sum, IsScopeIfDecision, IsScopeFor, IsPlaceIn, HasRoomInScope};
 
 use crate::weight_bound::BoundPlace;
 use maid_model::{Diagram, GREATEST_NUMBER, Kind, goals_of};
@@ -116,33 +116,16 @@ fn greatest_abs(cells: &[i128]) -> u128
 }
 
 impl Scope {
-    // With what the node counts in the scope's product: a chance node with its total, a decision with
-    // the count of its states where decisions count, and a node that the scope lacks with 1.
+    // With what a node of the scope counts in its product: a chance node with its total, a decision with
+    // the count of its states where decisions count.
     fn factor(&self, diagram: &Diagram, v: usize) -> u128
         requires { v < length diagram.now.nodes }
-        ensures { result ≡ factor_in diagram.now.nodes self.now v }
+        ensures { result ≡ factor_by self.now.counted diagram.now.nodes v }
     {
-        let kind = diagram.kind(v);
-        if !self.nodes.holds(v) {
-            return 1;
-        }
-        match (kind, self.counted) {
+        match (diagram.kind(v), self.counted) {
             (Kind::Chance, _) => diagram.weight_total(v),
             (Kind::Decision, Counted::ChanceAndDecisions) => diagram.states(v) as u128,
             (Kind::Decision, Counted::ChanceAlone) | (Kind::Utility, _) => 1,
-        }
-    }
-
-    // The greatest absolute value of the node's cells if it is one of the scope's utilities, and else 0.
-    fn greatest_at(&self, diagram: &Diagram, v: usize) -> u128
-        requires { v < length diagram.now.nodes }
-        ensures { result ≡ greatest_in diagram.now.nodes self.now v }
-    {
-        let cells = diagram.cells(v);
-        if self.utilities.holds(v) {
-            greatest_abs(cells)
-        } else {
-            0
         }
     }
 
@@ -150,9 +133,12 @@ impl Scope {
     fn greatest(&self, diagram: &Diagram) -> Option<u128>
         ensures { IsWithinRange result (greatest_sum diagram.now.nodes self.now) }
     {
+        let count = diagram.count();
         let mut sum = 0;
-        for v in 0..diagram.count() {
-            sum = add_within(sum, self.greatest_at(diagram, v), GREATEST_NUMBER)?;
+        let mut next = 0;
+        'nodes: while let Some(v) = self.utilities.first_between(next, count) {
+            sum = add_within(sum, greatest_abs(diagram.cells(v)), GREATEST_NUMBER)?;
+            next = v + 1;
         }
         Some(sum)
     }
@@ -173,12 +159,15 @@ impl Scope {
     pub(crate) fn place(&self, diagram: &Diagram) -> BoundPlace
         ensures { IsPlaceIn diagram.now self.now result }
     {
+        let count = diagram.count();
         let mut product = 1;
-        for v in 0..diagram.count() {
+        let mut next = 0;
+        'nodes: while let Some(v) = self.nodes.first_between(next, count) {
             match mul_within(product, self.factor(diagram, v), GREATEST_NUMBER) {
                 Some(longer) => product = longer,
                 None => return BoundPlace::Node(v),
             }
+            next = v + 1;
         }
         if self.has_room(diagram, product) {
             BoundPlace::Within
