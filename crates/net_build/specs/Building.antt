@@ -2,7 +2,8 @@
 use Rattle.std.specs.Prelude.{◌≡◌, ◌<◌, ℕ, ℤ, pos, List, [], ◌∷◌, map, length, slice_index_or}
 use Rattle.maid_model.specs.declared.diagrams.Kind.{Kind}
 use Rattle.maid_model.specs.declared.diagrams.Kind.TheVariants.{Chance, Decision, Utility}
-use Rattle.maid_model.specs.Names.{NamesView}
+use Rattle.maid_model.specs.Diagrams.{IsDiagram}
+use Rattle.maid_model.specs.Names.{NamesView, NamesFit}
 use Rattle.maid_model.specs.Views.{DiagramView}
 use Rattle.net_lexer.specs.Token.{token_bytes}
 use Rattle.net_parser.specs.Trees.{BlockTree}
@@ -11,6 +12,8 @@ use Rattle.net_build.specs.Blocks.{node_blocks, kind_of, names_of, block_labels,
 use Rattle.weight_scale.specs.Scaling.{IsScaled}
 use Rattle.weight_scale.specs.Views.{ScaledView}
 use Rattle.net_build.specs.Scaling.{AreDecimals, IsScaledBy}
+use Rattle.net_build.specs.Form.{HasTextForm}
+use Rattle.net_build.specs.Plain.{IsPlain}
 use Rattle.net_build.specs.Table.{IsUtilityScale, no_block}
 
 -- the names, labels and agents in the blocks
@@ -59,3 +62,11 @@ pub record StandsFor
   pub parents : map (λ n. n.parents) d.nodes ≡ parent_lists text blocks
   pub scale : IsUtilityScale text blocks d.decimals
   pub tables : AreTables text blocks d.decimals (map (λ n. n.cells) d.nodes)
+
+-- what the diagram of a tree is, beside the names in the tree's blocks
+pub record IsDiagramOfTree (text : List ℕ) (blocks : List BlockTree) (d : DiagramView) : Type 0 where
+  pub stands : StandsFor text blocks d (names_view text blocks)
+  pub within : IsDiagram d
+  pub fit : NamesFit d (names_view text blocks)
+  pub form : HasTextForm d (names_view text blocks)
+  pub plain : IsPlain d

@@ -19,7 +19,7 @@ use Rattle.net_build.specs.Linking.{borrowed_tree}
 use Rattle.net_build.specs.Passes.{Found, build_fault}
 use Rattle.net_build.specs.Scaling.{decimal_at}
 use Rattle.net_build.specs.Stages.{NodeLists}
-use Rattle.net_build.specs.Table.{table_pass, wide_pass, wide_row}
+use Rattle.net_build.specs.Table.{graph_pass, missing_pass, potential_pass, size_pass, table_pass, wide_pass, wide_row}
 use Rattle.net_build.specs.TableParts.{ArePlainNumbers, IsDraftFrom, IsDraftOf, IsFewDigits, IsScaleOf, Reaches, data_part, few_number, node_part, numerals_in, scaled_pass, table_part, values_in}
 
 -- the `data` of a node with that head and so many rows
@@ -88,6 +88,15 @@ AreNarrowValues text nodes blocks scale =
 -- the tables, and then the utilities' values
 abbrev pub tables_pass : List ℕ → List BlockTree → Pass Found
 tables_pass text blocks = table_pass text blocks ▸ wide_pass text blocks
+
+-- all that comes behind the rows of the nodes
+abbrev pub passes_behind_nodes : List ℕ → List BlockTree → Pass Found
+passes_behind_nodes text blocks =
+    potential_pass text blocks
+    ▸ missing_pass text blocks
+    ▸ graph_pass text blocks
+    ▸ size_pass text blocks
+    ▸ tables_pass text blocks
 
 -- a call that ended well added the numbers of the potential's table to the tokens
 abbrev pub AddsNumbers :

@@ -1,18 +1,21 @@
 //! From a text's tree to its diagram and its names, or to its first fault.
 
-ghost use Rattle.std.specs.Prelude.{◌≡◌, length, IfOk};
+ghost use Rattle.std.specs.Prelude.{◌≡◌, length, All, IfOk, None};
 ghost use Rattle.maid_model.specs.Diagrams.{IsDiagram};
 ghost use Rattle.maid_model.specs.Names.{NamesFit};
-ghost use Rattle.net_build.specs.Building.{StandsFor};
+ghost use Rattle.net_build.specs.Blocks.{node_blocks};
+ghost use Rattle.net_build.specs.Building.{IsDiagramOfTree, StandsFor};
 ghost use Rattle.net_build.specs.Form.{HasTextForm};
 ghost use Rattle.first_fault.specs.Answers.{Passes};
 ghost use Rattle.net_build.specs.Passes.{build_fault};
 ghost use Rattle.net_build.specs.Plain.{IsPlain};
-ghost use Rattle.net_build.specs.Stages.{made_node, made_diagram, nodes_from};
-ghost use Rattle.net_build.specs.Table.{all_passes};
+ghost use Rattle.net_build.specs.Stages.{made_node, made_diagram, node_lists, nodes_from};
+ghost use Rattle.net_build.specs.Table.{all_passes, node_pass};
+ghost use Rattle.net_build.specs.TableCalls.{passes_behind_nodes};
 ghost use Rattle.net_lexer.specs.Pieces.{IsTokens};
 ghost use Rattle.net_parser.specs.Grammar.{Spells};
 ghost use Rattle.net_parser.specs.Lexemes.{lexemes};
+ghost use Rattle.net_parser.specs.Owned.{IsBlockOf};
 ghost use Rattle.net_build.specs.Answered.{AnswersList};
 ghost use Rattle.net_build.specs.NodeCalls.{names_from};
 
@@ -94,23 +97,22 @@ fn make_names(alloc: Global, nodes: Nodes) -> Result<Names, AllocError>
     Ok(Names::from_lists(node_names, nodes.labels, nodes.agents))
 }
 
-// The diagram and the names of these parts.
-fn assemble(
+// The diagram of a tree whose nodes these are, or the first fault behind the nodes.
+fn read_diagram(
     alloc: Global,
-    nodes: Nodes,
-    links: &Links<'_, '_>,
-    tables: Tables,
-) -> Result<(Diagram, Names), AllocError>
-    requires more { length nodes.more ≡ length nodes.heads }
-    requires parents { length links.now.parents ≡ length nodes.heads }
-    requires tables { length tables.cells ≡ length nodes.heads }
-    requires diagram { IsDiagram (made_diagram nodes links.now tables) }
-    ensures diagram { IfOk result (λ built. built.0 ≡ made_diagram nodes links.now tables) }
-    ensures names { IfOk result (λ built. built.1 ≡ names_from nodes) }
+    text: &[u8],
+    syntax: &Syntax<'_>,
+    nodes: &Nodes,
+) -> Result<Diagram, BuildFault>
+    requires blocks { All (IsBlockOf text.now) syntax.now }
+    requires nodes { nodes.now ≡ node_lists text.now (node_blocks syntax.now) }
+    requires rows { node_pass text.now syntax.now None }
+    ensures rows { Passes build_fault (passes_behind_nodes text.now syntax.now) result }
+    ensures diagram { IfOk result (IsDiagramOfTree text.now syntax.now) }
 {
-    let diagram = make_diagram(alloc, &nodes, links, tables)?;
-    let names = make_names(alloc, nodes)?;
-    Ok((diagram, names))
+    let links = read_links(alloc, text, syntax, nodes)?;
+    let tables = read_tables(alloc, text, syntax, nodes, &links)?;
+    Ok(make_diagram(alloc, nodes, &links, tables)?)
 }
 
 /// The diagram and the names that the tree of a text stands for, or the first fault of the table of passes. It goes over
@@ -134,7 +136,7 @@ pub fn build(
     let _ = tokens;
     blocks_stand_in_their_text();
     let nodes = read_nodes(alloc, text, syntax)?;
-    let links = read_links(alloc, text, syntax, &nodes)?;
-    let tables = read_tables(alloc, text, syntax, &nodes, &links)?;
-    Ok(assemble(alloc, nodes, &links, tables)?)
+    let diagram = read_diagram(alloc, text, syntax, &nodes)?;
+    let names = make_names(alloc, nodes)?;
+    Ok((diagram, names))
 }
