@@ -1,7 +1,9 @@
 -- What stands behind a quote that isn't escaped.
-use Rattle.std.proofs.Common.{◌≡◌, ℕ, List, [], ◌∷◌, ◌++◌, Bool, true, false, None, Some, cond, refl, ap}
+use Rattle.std.proofs.Common.{◌≡◌, ◌≢◌, ◌≤◌, ◌-◌, ◌⊎◌, inl, inr, rules, tests, ℕ, List, [], ◌∷◌, ◌++◌, length, get_or, take, drop, Bool, true, false, None, Some, cond, refl, ap, sym, ◌∙◌, arith}
+use Rattle.std.proofs.Math.Seq.{take-length}
+use Rattle.std.proofs.lemmas.Bool.Decides.{nat_tests}
 use Rattle.net_lexer.specs.Bytes.{is_quote}
-use Rattle.net_lexer.specs.Strings.{behind_quote, is_escape}
+use Rattle.net_lexer.specs.Strings.{behind_quote, unescaped, is_escape}
 
 -- the bytes up to the quote, which stand there whatever is behind it
 pub record Closes (bytes rest : List ℕ) : Type 0 where
@@ -62,3 +64,49 @@ behind_quote-append (b ∷ c ∷ bytes) rest after h = by_test (is_quote b) (is_
   by_test true e q_is e_is short long h = let same : c ∷ bytes ≡ rest = cc in rw (q_is, ← same) refl
   by_test false true q_is e_is short long h = rw (q_is, e_is) (short h)
   by_test false false q_is e_is short long h = rw (q_is, e_is) (long h)
+
+-- a byte that is no quote
+plain : (b : ℕ) → b ≢ 34 → is_quote b ≡ false
+plain b not_quote = search (rules, tests)
+
+-- two bytes that are no escape
+no_escape : (b c : ℕ) → (b ≡ 92 → (c ≢ 34) × (c ≢ 92)) → is_escape b c ≡ false
+no_escape b c second = grind (arith, nat_tests)
+
+-- as many of some bytes as there are
+all_taken : (xs : List ℕ) (n : ℕ) → n ≡ length xs → take n xs ≡ xs
+all_taken xs n e = rw (e, take-length xs) refl
+
+-- behind an escape
+pub past_escape : (xs : List ℕ) → 2 ≤ length xs → get_or xs 0 0 ≡ 92 → (get_or xs 1 0 ≡ 34) ⊎ (get_or xs 1 0 ≡ 92) → behind_quote (take (length xs - 2) (drop 2 xs)) ≡ behind_quote xs
+past_escape [] long first second = absurd (omega (arith, long))
+past_escape (b ∷ []) long first second = absurd (omega (arith, long))
+past_escape (b ∷ c ∷ xs) long first second = ap behind_quote (all_taken xs _ (omega arith)) ∙ by_second second where
+  by_second : (c ≡ 34) ⊎ (c ≡ 92) → behind_quote xs ≡ behind_quote (b ∷ c ∷ xs)
+  by_second (inl quote) = rw (first, quote) refl
+  by_second (inr backslash) = rw (first, backslash) refl
+
+-- behind a byte that is neither a quote nor begins an escape
+pub past_byte : (xs : List ℕ) → 1 ≤ length xs → get_or xs 0 0 ≢ 34 → (2 ≤ length xs → get_or xs 0 0 ≡ 92 → (get_or xs 1 0 ≢ 34) × (get_or xs 1 0 ≢ 92)) → behind_quote (take (length xs - 1) (drop 1 xs)) ≡ behind_quote xs
+past_byte [] some first second = absurd (omega (arith, some))
+past_byte (b ∷ []) some first second = rw (plain b first) refl
+past_byte (b ∷ c ∷ xs) some first second =
+    ap behind_quote (all_taken (c ∷ xs) _ (omega arith))
+    ∙ rw (plain b first, no_escape b c (second (omega arith))) refl
+
+-- an escape means its second byte
+pub meant_escape : (xs : List ℕ) → 2 ≤ length xs → get_or xs 0 0 ≡ 92 → (get_or xs 1 0 ≡ 34) ⊎ (get_or xs 1 0 ≡ 92) → unescaped xs ≡ get_or xs 1 0 ∷ unescaped (take (length xs - 2) (drop 2 xs))
+meant_escape [] long first second = absurd (omega (arith, long))
+meant_escape (b ∷ []) long first second = absurd (omega (arith, long))
+meant_escape (b ∷ c ∷ xs) long first second = by_second second ∙ ap (λ ys. c ∷ unescaped ys) (sym (all_taken xs _ (omega arith))) where
+  by_second : (c ≡ 34) ⊎ (c ≡ 92) → unescaped (b ∷ c ∷ xs) ≡ c ∷ unescaped xs
+  by_second (inl quote) = rw (first, quote) refl
+  by_second (inr backslash) = rw (first, backslash) refl
+
+-- a byte that begins no escape means itself
+pub meant_byte : (xs : List ℕ) → 1 ≤ length xs → (2 ≤ length xs → get_or xs 0 0 ≡ 92 → (get_or xs 1 0 ≢ 34) × (get_or xs 1 0 ≢ 92)) → unescaped xs ≡ get_or xs 0 0 ∷ unescaped (take (length xs - 1) (drop 1 xs))
+meant_byte [] some second = absurd (omega (arith, some))
+meant_byte (b ∷ []) some second = refl
+meant_byte (b ∷ c ∷ xs) some second =
+    rw (no_escape b c (second (omega arith))) refl
+    ∙ ap (λ ys. b ∷ unescaped ys) (sym (all_taken (c ∷ xs) _ (omega arith)))
