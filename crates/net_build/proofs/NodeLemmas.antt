@@ -7,17 +7,17 @@ use Rattle.std.specs.Prelude.{if◌then◌else◌}
 use Rattle.net_build.specs.Stages.{with_owners}
 use Rattle.net_build.proofs.SightLemmas.{agents_more, owners_here}
 use Rattle.std.specs.Option.{SomeIff}
-use Rattle.std.specs.Prelude.{codes}
 use Rattle.net_build.specs.declared.faults.BuildFault.{BuildFault}
 use Rattle.net_build.specs.declared.faults.BuildFault.TheVariants.{Fault, NoMemory}
 use Rattle.net_build.specs.declared.faults.BuildKind.TheVariants as kinds
 use Rattle.net_build.specs.declared.faults.Limit.TheVariants as limits
 use Rattle.net_build.specs.declared.nodes.Head.{Head}
-use Rattle.net_build.specs.Blocks.{is_node, kind_of, title_at, block_name, names_of, named, has_states, has_agent, owner_texts, agents_of, owner_numbers, place_among, node_blocks}
-use Rattle.first_fault.specs.Passes.{Pass, only}
+use Rattle.net_build.specs.Blocks.{is_node, kind_of, title_at, block_name, names_of, has_agent, owner_texts, agents_of, owner_numbers, place_among, node_blocks}
+use Rattle.first_fault.specs.Passes.{Pass}
 use Rattle.first_fault.specs.Answers.{IsFaultOrNoMemory}
 use Rattle.net_build.specs.Passes.{Found, build_fault}
-use Rattle.net_build.specs.Table.{name_rows, states_rows, owner_rows, repeats, node_rows}
+use Rattle.net_build.specs.NodeCalls.{attribute_rows}
+use Rattle.net_build.specs.Table.{block_owner_rows, name_rows, node_rows}
 use Rattle.net_parser.specs.Owned.{HasNames}
 use Rattle.net_parser.specs.Trees.{BlockTree}
 use Rattle.net_parser.specs.declared.trees.BlockKind.{BlockKind}
@@ -64,24 +64,20 @@ unfolding node_rows
 entry_name text names agents block NoMemory h = tt
 entry_name text names agents block (Fault at kind) h = inl h
 
-pub entry_repeats : (text : List ℕ) (names agents : List (List ℕ)) (block : BlockTree) (fault : BuildFault) → name_rows text names block None → IsFaultOrNoMemory build_fault (repeats text block) fault → IsFaultOrNoMemory build_fault (node_rows text names agents block) fault
+pub entry_labels : (text : List ℕ) (names agents : List (List ℕ)) (block : BlockTree) (fault : BuildFault) → name_rows text names block None → IsFaultOrNoMemory build_fault (attribute_rows text block) fault → IsFaultOrNoMemory build_fault (node_rows text names agents block) fault
 unfolding node_rows
-entry_repeats text names agents block NoMemory name h = tt
-entry_repeats text names agents block (Fault at kind) name h = inr (name, inl h)
+entry_labels text names agents block NoMemory name h = tt
+entry_labels text names agents block (Fault at kind) name (inl h) = inr (name, inl h)
+entry_labels text names agents block (Fault at kind) name (inr (single, h)) = inr (name, inr (single, inl h))
 
-pub entry_labels : (text : List ℕ) (names agents : List (List ℕ)) (block : BlockTree) (fault : BuildFault) → name_rows text names block None → repeats text block None → IsFaultOrNoMemory build_fault (only (has_states block.kind) (states_rows text block (named text (codes "states") block.attributes))) fault → IsFaultOrNoMemory build_fault (node_rows text names agents block) fault
+pub entry_owner : (text : List ℕ) (names agents : List (List ℕ)) (block : BlockTree) (fault : BuildFault) → name_rows text names block None → attribute_rows text block None → IsFaultOrNoMemory build_fault (block_owner_rows text agents block) fault → IsFaultOrNoMemory build_fault (node_rows text names agents block) fault
 unfolding node_rows
-entry_labels text names agents block NoMemory name single h = tt
-entry_labels text names agents block (Fault at kind) name single h = inr (name, inr (single, inl h))
+entry_owner text names agents block NoMemory name labels h = tt
+entry_owner text names agents block (Fault at kind) name labels h = inr (name, inr (labels.0, inr (labels.1, h)))
 
-pub entry_owner : (text : List ℕ) (names agents : List (List ℕ)) (block : BlockTree) (fault : BuildFault) → name_rows text names block None → repeats text block None → only (has_states block.kind) (states_rows text block (named text (codes "states") block.attributes)) None → IsFaultOrNoMemory build_fault (only (has_agent block.kind) (owner_rows text agents block)) fault → IsFaultOrNoMemory build_fault (node_rows text names agents block) fault
+pub entry_good : (text : List ℕ) (names agents : List (List ℕ)) (block : BlockTree) → name_rows text names block None → attribute_rows text block None → block_owner_rows text agents block None → node_rows text names agents block None
 unfolding node_rows
-entry_owner text names agents block NoMemory name single labels h = tt
-entry_owner text names agents block (Fault at kind) name single labels h = inr (name, inr (single, inr (labels, h)))
-
-pub entry_good : (text : List ℕ) (names agents : List (List ℕ)) (block : BlockTree) → name_rows text names block None → repeats text block None → only (has_states block.kind) (states_rows text block (named text (codes "states") block.attributes)) None → only (has_agent block.kind) (owner_rows text agents block) None → node_rows text names agents block None
-unfolding node_rows
-entry_good text names agents block name single labels owner = (name, (single, (labels, owner)))
+entry_good text names agents block name labels owner = (name, (labels.0, (labels.1, owner)))
 
 -- a node block has a name
 pub node_is_named : (kind : BlockKind) (count : ℕ) → is_node kind ≡ true → HasNames kind count → 0 < count

@@ -12,12 +12,13 @@ use Rattle.net_build.specs.declared.faults.BuildFault.{BuildFault}
 use Rattle.net_build.specs.declared.faults.BuildFault.TheVariants.{Fault}
 use Rattle.net_build.specs.declared.faults.BuildKind.TheVariants as kinds
 use Rattle.net_build.specs.declared.faults.Limit.TheVariants as limits
-use Rattle.net_build.specs.Blocks.{place_among, owner_attributes, owner_texts, title_at, with_sight, with_sights}
+use Rattle.net_build.specs.Blocks.{place_among, owner_attributes, owner_texts, texts_or_agent, title_at, with_sight, with_sights}
 use Rattle.maid_model.specs.Names.{list_of}
 use Rattle.first_fault.specs.Passes.{rule, each_after}
 use Rattle.first_fault.specs.Answers.{IsFaultOrNoMemory, Passes}
 use Rattle.net_build.specs.Passes.{found, LimitPassed, build_fault}
 use Rattle.net_build.specs.Table.{IsAgentTooMany, agent_rows, sight_row, owner_rows}
+use Rattle.net_lexer.specs.declared.tokens.Token.{Token}
 use Rattle.net_parser.specs.Trees.{BlockTree}
 use Rattle.net_build.proofs.AttributeLemmas.{contains_none, contains_cases, contains_later, or_true}
 use Rattle.first_fault.proofs.Leading.{passes_on, refused_first, take_item}
@@ -109,6 +110,11 @@ pub owners_numbered : {A : Type 0} (text : List ℕ) (agents : List (List ℕ)) 
 unfolding owner_rows
 owners_numbered text agents block names at result nothing are is rows =
     passes_on build_fault (agent_rows text (owner_attributes text block)) (each_after (sight_row agents (title_at block)) [] (owner_texts text block)) result nothing (rw (are, is) at rows)
+
+-- a decision or a utility has an owner
+pub some_numbers : (text : List ℕ) (agents : List (List ℕ)) (tokens : List Token) → 0 < length (map (place_among agents) (texts_or_agent text tokens))
+some_numbers text agents [] = omega arith
+some_numbers text agents (token ∷ tokens) = omega arith
 
 -- the first owner and the others
 pub first_and_more : (numbers : List ℕ) → 0 < length numbers → get_or numbers 0 0 ∷ drop 1 numbers ≡ numbers

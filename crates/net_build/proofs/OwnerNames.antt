@@ -5,12 +5,14 @@ use Rattle.std.specs.List.{list_all}
 use Rattle.std.specs.Prelude.{codes}
 use Rattle.std.specs.Str.{bytes_eq}
 use Rattle.net_build.specs.declared.faults.BuildFault.{BuildFault}
+use Rattle.net_build.specs.declared.faults.BuildFault.TheVariants as faults
 use Rattle.net_build.specs.Blocks.{is_string, is_string_list, is_label, tells_owners, texts_or_agent, word_of}
 use Rattle.first_fault.specs.Passes.{rule, each, each_after}
 use Rattle.first_fault.specs.Answers.{IsFaultOrNoMemory, Passes}
 use Rattle.first_fault.proofs.Leading.{refused_first, refused_later}
-use Rattle.net_build.specs.Passes.{found, BadAgent, Found, build_fault}
-use Rattle.net_build.specs.Table.{label_row, agent_rows, repeated_agent_row}
+use Rattle.net_build.specs.Passes.{found, BadAgent, Found, build_fault, kind_view}
+use Rattle.net_build.specs.NodeCalls.{as_bad_agent}
+use Rattle.net_build.specs.Table.{label_row, agent_rows, bad_agent_row, repeated_agent_row}
 use Rattle.net_lexer.specs.Token.{text_value}
 use Rattle.net_lexer.specs.declared.tokens.Token.{Token}
 use Rattle.net_parser.specs.Owned.{leaves}
@@ -51,6 +53,11 @@ module _ (text : List ℕ) (a : AttributeTree) where
   pub unplain_list : (ts : List Token) (f : Found) → bytes_eq (word_of text a) (codes "agents") ≡ true → leaves a.value ≡ ts → each (label_row text) ts (Some f) → tells_owners text a ≡ false
   unplain_list ts f many are one_bad =
       list_tells many ∙ ap (λ b. is_string_list a.value && b) (ap (list_all (λ t. is_label (text_value text t))) are ∙ some_unplain ts f one_bad) ∙ and_false (is_string_list a.value)
+
+  pub unplain_fault : (ts : List Token) (fault : BuildFault) → bytes_eq (word_of text a) (codes "agents") ≡ true → leaves a.value ≡ ts → IsFaultOrNoMemory build_fault (each (label_row text) ts) fault
+      → IsFaultOrNoMemory build_fault (bad_agent_row text a) (as_bad_agent a.name.start fault)
+  unplain_fault ts faults.NoMemory many are h = tt
+  unplain_fault ts (faults.Fault at kind) many are h = (unplain_list ts (found at (kind_view kind)) many are h, refl)
 
   -- an `agent` that tells an owner is a string
   pub one_string : bytes_eq (word_of text a) (codes "agents") ≡ false → (tells_owners text a ≡ false → ⊥) → is_string a.value ≡ true

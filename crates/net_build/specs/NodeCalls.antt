@@ -4,7 +4,7 @@ use Rattle.std.specs.Borrow.{Bor}
 use Rattle.std.specs.Global.{Vec}
 use Rattle.std.specs.Option.{SomeIff}
 use Rattle.first_fault.specs.Answers.{Passes}
-use Rattle.first_fault.specs.Passes.{Pass, each_after}
+use Rattle.first_fault.specs.Passes.{Pass, each_after, ◌▸◌}
 use Rattle.maid_model.specs.Names.{NamesView, list_of}
 use Rattle.net_lexer.specs.Token.{text_value}
 use Rattle.net_lexer.specs.declared.tokens.Token.{Token}
@@ -12,13 +12,15 @@ use Rattle.net_parser.specs.Owned.{leaves}
 use Rattle.net_parser.specs.Trees.{AttributeTree, BlockTree, ValueTree, leaf}
 use Rattle.net_parser.specs.declared.trees.BlockKind.{BlockKind}
 use Rattle.net_build.specs.declared.faults.BuildFault.{BuildFault}
+use Rattle.net_build.specs.declared.faults.BuildFault.TheVariants.{Fault, NoMemory}
+use Rattle.net_build.specs.declared.faults.BuildKind.TheVariants.{BadAgent}
 use Rattle.net_build.specs.declared.nodes.Entry.{Entry}
 use Rattle.net_build.specs.declared.owners.Owners.{Owners}
 use Rattle.net_build.specs.Answered.{texts_in}
-use Rattle.net_build.specs.Blocks.{block_labels, counted_in, is_string, named_owner_places, owner_attributes, owner_places, place_among, state_attributes, with_sight, with_sights}
+use Rattle.net_build.specs.Blocks.{block_labels, block_name, block_states, counted_in, is_string, kind_of, named_owner_places, owner_attributes, owner_places, place_among, state_attributes, title_at, with_sight, with_sights}
 use Rattle.net_build.specs.Passes.{Found, build_fault}
 use Rattle.net_build.specs.Stages.{NodeLists, with_named_owners, with_owners}
-use Rattle.net_build.specs.Table.{agent_rows, block_owner_rows, node_rows, repeated_row, sight_row, states_rows}
+use Rattle.net_build.specs.Table.{agent_rows, block_owner_rows, block_states_rows, node_rows, repeated_row, repeats, sight_row, states_rows}
 
 -- the attributes of such a block: one that counts is about what one before it is about
 abbrev pub attribute_repeats : List ℕ → BlockKind → List AttributeTree → Pass Found
@@ -56,6 +58,15 @@ PassesOwners text agents block result =
 -- the strings in an attribute's value, with escapes undone
 abbrev pub value_texts : List ℕ → AttributeTree → List (List ℕ)
 value_texts text attribute = map (text_value text) (leaves attribute.value)
+
+-- the fault of an attribute at that place whose strings are refused as labels
+abbrev pub as_bad_agent : ℕ → BuildFault → BuildFault
+as_bad_agent at NoMemory = NoMemory
+as_bad_agent at (Fault place kind) = Fault at BadAgent
+
+-- a node block's attributes that count don't repeat, and then its states
+abbrev pub attribute_rows : List ℕ → BlockTree → Pass Found
+attribute_rows text block = repeats text block ▸ block_states_rows text block
 
 -- the string that a value is, and none exactly where it is no string
 abbrev pub IsStringOf : ValueTree → Option (Bor Token) → Type 0
@@ -103,10 +114,15 @@ abbrev pub AreOwners : List ℕ → Vec (Vec ℕ) → BlockTree → Owners → T
 AreOwners text agents block owners =
     owners.first ∷ owners.more.items ≡ owner_places text (texts_in agents) block
 
--- the same of the owners in a node's entry
-abbrev pub HasOwnersInText : List ℕ → Vec (Vec ℕ) → BlockTree → Entry → Type 0
-HasOwnersInText text agents block entry =
-    entry.head.owner ∷ entry.more.items ≡ owner_places text (texts_in agents) block
+-- what the block says, its owners by their places among the agents
+pub record IsEntryOf
+    (text : List ℕ) (agents : Vec (Vec ℕ)) (block : BlockTree) (entry : Entry) : Type 0 where
+  pub name : entry.name.items ≡ block_name text block
+  pub labels : AreLabelsOf text block entry.labels
+  pub at : entry.head.at ≡ title_at block
+  pub kind : entry.head.kind ≡ kind_of block.kind
+  pub states : entry.head.states ≡ block_states text block
+  pub owners : entry.head.owner ∷ entry.more.items ≡ owner_places text (texts_in agents) block
 
 -- the names, labels and agents that the node blocks say
 abbrev pub names_from : NodeLists → NamesView

@@ -6,9 +6,9 @@ ghost use Rattle.maid_model.specs.Names.{list_of};
 ghost use Rattle.first_fault.specs.Answers.{Passes};
 ghost use Rattle.net_build.specs.Passes.{build_fault};
 ghost use Rattle.net_build.specs.Stages.{node_lists};
-ghost use Rattle.net_build.specs.Table.{name_rows, node_pass, block_states_rows};
+ghost use Rattle.net_build.specs.Table.{name_rows, node_pass};
 ghost use Rattle.net_parser.specs.Owned.{IsBlockOf};
-ghost use Rattle.net_build.specs.NodeCalls.{AddsOwners, AreLabelsOf, HasOwnersInText, PassesNode};
+ghost use Rattle.net_build.specs.NodeCalls.{AddsOwners, AreLabelsOf, IsEntryOf, PassesNode, attribute_rows};
 
 use crate::attributes::check_repeats;
 use crate::distinct_names::DistinctNames;
@@ -125,12 +125,13 @@ fn read_name<'a>(
     Ok(name)
 }
 
-// The labels of a node; a utility has none.
+// The labels of a node whose attributes that count don't repeat; a utility has none.
 fn node_labels(alloc: Global, text: &[u8], block: &Block<'_>) -> Result<Vec<Vec<u8>>, BuildFault>
     requires { IsBlockOf text.now block.now }
-    ensures rows { Passes build_fault (block_states_rows text.now block.now) result }
+    ensures rows { Passes build_fault (attribute_rows text.now block.now) result }
     ensures labels { IfOk result (AreLabelsOf text.now block.now) }
 {
+    check_repeats(text, block)?;
     if has_states(block.kind) {
         read_labels(alloc, text, block)
     } else {
@@ -162,15 +163,9 @@ fn read_entry(
     requires named { 0 < length block.now.names }
     ensures rows { PassesNode text.now names.now agents.old block.now result }
     ensures agents { AddsOwners text.now block.now agents.old agents.new result }
-    ensures name { IfOk result (λ entry. entry.name.items ≡ block_name text.now block.now) }
-    ensures labels { IfOk result (λ entry. AreLabelsOf text.now block.now entry.labels) }
-    ensures at { IfOk result (λ entry. entry.head.at ≡ title_at block.now) }
-    ensures kind { IfOk result (λ entry. entry.head.kind ≡ kind_of block.now.kind) }
-    ensures states { IfOk result (λ entry. entry.head.states ≡ block_states text.now block.now) }
-    ensures owners { IfOk result (HasOwnersInText text.now agents.new block.now) }
+    ensures entry { IfOk result (IsEntryOf text.now agents.new block.now) }
 {
     let name = read_name(text, block, names)?;
-    check_repeats(text, block)?;
     let labels = node_labels(alloc, text, block)?;
     let owners = read_owners(alloc, text, block, agents)?;
     let head = Head {

@@ -12,7 +12,7 @@ ghost use Rattle.net_lexer.specs.declared.tokens.TokenKind.TheVariants.{Text};
 ghost use Rattle.net_parser.specs.Owned.{IsAttributeOf, IsBlockOf, leaves};
 ghost use Rattle.net_parser.specs.Views.{value_tree};
 ghost use Rattle.net_build.specs.Answered.{AnswersTexts};
-ghost use Rattle.net_build.specs.NodeCalls.{IsStringOf, value_texts, written_owners_rows};
+ghost use Rattle.net_build.specs.NodeCalls.{IsStringOf, as_bad_agent, value_texts, written_owners_rows};
 
 use crate::attributes::{is_named, names_owners, word_of};
 use crate::distinct_names::DistinctNames;
@@ -78,6 +78,16 @@ fn one_name(alloc: Global, text: &[u8], agent: &Attribute<'_>) -> Result<Vec<Vec
     Ok(names)
 }
 
+// The fault of an attribute there whose strings are refused as labels.
+fn bad_agent(refused: BuildFault, at: u32) -> BuildFault
+    ensures { result ≡ as_bad_agent at refused }
+{
+    match refused {
+        BuildFault::Fault { .. } => BuildKind::BadAgent.at(at),
+        BuildFault::NoMemory => BuildFault::NoMemory,
+    }
+}
+
 // The owners that an `agents` tells. An agent's name has the form of a label.
 fn listed_names(
     alloc: Global,
@@ -96,8 +106,7 @@ fn listed_names(
     let strings = leaves(alloc, &agents.value)?;
     match labels(alloc, text, &strings) {
         Ok(names) => Ok(names),
-        Err(BuildFault::Fault { .. }) => Err(BuildKind::BadAgent.at(at)),
-        Err(BuildFault::NoMemory) => Err(BuildFault::NoMemory),
+        Err(refused) => Err(bad_agent(refused, at)),
     }
 }
 
@@ -135,6 +144,25 @@ fn see_agent(
     Ok(())
 }
 
+// None of the names stands a second time, and all of them are seen. They are those of these strings.
+fn see_agents(
+    alloc: Global,
+    text: &[u8],
+    seen: &mut DistinctNames,
+    agents: &[Token],
+    names: &[Vec<u8>],
+) -> Result<(), BuildFault>
+    requires none { seen.old ≡ [] }
+    requires names { list_of names.now ≡ map (text_value text.now) agents.now }
+    ensures { Passes build_fault (each_after (repeated_agent_row text.now) [] agents.now) result }
+{
+    let _ = text;
+    for (place, agent) in agents.iter().enumerate() {
+        see_agent(alloc, seen, &names[place], agent.start)?;
+    }
+    Ok(())
+}
+
 // None of the names stands a second time; they are those of these strings. It goes over them once.
 fn check_distinct(
     alloc: Global,
@@ -145,12 +173,8 @@ fn check_distinct(
     requires { list_of names.now ≡ map (text_value text.now) agents.now }
     ensures { Passes build_fault (each_after (repeated_agent_row text.now) [] agents.now) result }
 {
-    let _ = text;
     let mut seen = DistinctNames::new(alloc);
-    for (place, agent) in agents.iter().enumerate() {
-        see_agent(alloc, &mut seen, &names[place], agent.start)?;
-    }
-    Ok(())
+    see_agents(alloc, text, &mut seen, agents, names)
 }
 
 // The owners that the attribute tells.

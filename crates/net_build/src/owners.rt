@@ -1,6 +1,6 @@
 //! The owners of decisions and utilities, as numbers of agents in order of first sight.
 
-ghost use Rattle.std.specs.Prelude.{◌≡◌, ◌<◌, length, IfOk};
+ghost use Rattle.std.specs.Prelude.{◌≡◌, ◌<◌, ◌∷◌, length, IfOk};
 ghost use Rattle.net_build.specs.Blocks.{has_agent, place_among};
 ghost use Rattle.maid_model.specs.Names.{list_of};
 ghost use Rattle.first_fault.specs.Answers.{Passes};
@@ -16,7 +16,7 @@ use crate::owner_names::read_names;
 use crate::places::place_of;
 use maid_model::MOST_AGENTS;
 use net_parser::{Block, BlockKind};
-use std::alloc::Global;
+use std::alloc::{AllocError, Global};
 
 /// The numbers of a node's owners: of the first, and of the further ones in written order.
 #[derive(Drop)]
@@ -72,6 +72,18 @@ fn number_owners(
     Ok(numbers)
 }
 
+// The owners with these numbers, of which there is one or more.
+fn owners_from(alloc: Global, numbers: &[usize]) -> Result<Owners, AllocError>
+    requires { 0 < length numbers.now }
+    ensures { IfOk result (λ owners. owners.first ∷ owners.more.items ≡ numbers.now) }
+{
+    let more = Vec::from_slice(alloc, &numbers[1..])?;
+    Ok(Owners {
+        first: numbers[0],
+        more,
+    })
+}
+
 // The owners of a decision or a utility.
 fn agent_owners(
     alloc: Global,
@@ -88,10 +100,7 @@ fn agent_owners(
 {
     let names = read_names(alloc, text, block)?;
     let numbers = number_owners(alloc, agents, &names, title(block).start)?;
-    Ok(Owners {
-        first: numbers[0],
-        more: Vec::from_slice(alloc, &numbers[1..])?,
-    })
+    Ok(owners_from(alloc, &numbers)?)
 }
 
 /// A decision or a utility.

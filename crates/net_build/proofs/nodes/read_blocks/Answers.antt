@@ -46,7 +46,7 @@ returns-in_err-entry-clause-rows c =
     (rw (c.loop-block.invariant.names, c.loop-block.invariant.agents) at c.in_err-entry.ensures.rows))
 
 pub enter-requires : goal.enter-requires
-enter-requires c has = entry_new c.args.text.now _ _ c.block-item.result c.in_ok-entry.ensures.rows (rw c.in_ok-entry.ensures.name at has)
+enter-requires c has = entry_new c.args.text.now _ _ c.block-item.result c.in_ok-entry.ensures.rows (rw c.in_ok-entry.ensures.entry.name at has)
 
 pub returns-clause-rows : goal.returns-clause-rows
 returns-clause-rows c = after_end (rows_behind c.args.text.now) is_node_block c.args.blocks.now (node_pass c.args.text.now c.args.blocks.now) c.loop-block.block-index c.loop-block-test.false c.loop-block.invariant.lead
@@ -69,17 +69,17 @@ loop-block-preserved c = elim c.if-is_node.branch [
       let b = c.block-item.result in
       let i = c.loop-block.block-index in
       let kept = ap (λ (b : BlockTree). is_node b.kind) (sym c.block.view_is) ∙ sym c.is_node.ensures ∙ w.if-is_node.true in
-      let owners = w.in_ok-entry.ensures.owners ∙ owners_up_to text blocks i b _ _ c.loop-block-test.true c.block-item.is kept c.loop-block.invariant.agents w.in_ok-entry.ensures.agents in
+      let owners = w.in_ok-entry.ensures.entry.owners ∙ owners_up_to text blocks i b _ _ c.loop-block-test.true c.block-item.is kept c.loop-block.invariant.agents w.in_ok-entry.ensures.agents in
       record {
         lead = after_step (rows_behind text) is_node_block blocks (node_pass text blocks) i b c.loop-block-test.true c.block-item.is kept c.loop-block.invariant.lead
             (rw (c.loop-block.invariant.names, c.loop-block.invariant.agents) at w.in_ok-entry.ensures.rows);
-        names = rw w.names-is (front_more (block_name text) is_node_block blocks i b c.loop-block.names _ w.in_ok-entry.entry.name.items c.loop-block-test.true c.block-item.is kept c.loop-block.invariant.names w.in_ok-enter.ensures.names w.in_ok-entry.ensures.name);
-        labels = rw w.labels-is (front_pushed (λ (v : Vec (Vec ℕ)). list_of v.items) (block_labels text) is_node_block blocks i b c.loop-block.labels.items _ w.in_ok-entry.entry.labels c.loop-block-test.true c.block-item.is kept c.loop-block.invariant.labels w.in_ok-enter.ensures.labels w.in_ok-entry.ensures.labels);
+        names = rw w.names-is (front_more (block_name text) is_node_block blocks i b c.loop-block.names _ w.in_ok-entry.entry.name.items c.loop-block-test.true c.block-item.is kept c.loop-block.invariant.names w.in_ok-enter.ensures.names w.in_ok-entry.ensures.entry.name);
+        labels = rw w.labels-is (front_pushed (λ (v : Vec (Vec ℕ)). list_of v.items) (block_labels text) is_node_block blocks i b c.loop-block.labels.items _ w.in_ok-entry.entry.labels c.loop-block-test.true c.block-item.is kept c.loop-block.invariant.labels w.in_ok-enter.ensures.labels w.in_ok-entry.ensures.entry.labels);
         agents = rw w.agents-is (agents_up_to text blocks i b _ _ c.loop-block-test.true c.block-item.is kept c.loop-block.invariant.agents w.in_ok-entry.ensures.agents);
         heads = rw w.heads-is (front_more (head_of text (node_blocks blocks)) is_node_block blocks i b c.loop-block.heads.items _ w.in_ok-entry.entry.head c.loop-block-test.true c.block-item.is kept c.loop-block.invariant.heads w.in_ok-enter.ensures.heads
-            (head_is w.in_ok-entry.entry.head (title_at b) (first_owner text (node_blocks blocks) b) (block_states text b) b w.in_ok-entry.ensures.at w.in_ok-entry.ensures.kind
+            (head_is w.in_ok-entry.entry.head (title_at b) (first_owner text (node_blocks blocks) b) (block_states text b) b w.in_ok-entry.ensures.entry.at w.in_ok-entry.ensures.entry.kind
             (first_is _ _ _ owners)
-            w.in_ok-entry.ensures.states));
+            w.in_ok-entry.ensures.entry.states));
         more = rw w.more-is (front_pushed (λ (v : Vec ℕ). v.items) (more_owners text (node_blocks blocks)) is_node_block blocks i b c.loop-block.more.items _ w.in_ok-entry.entry.more c.loop-block-test.true c.block-item.is kept c.loop-block.invariant.more w.in_ok-enter.ensures.more
             (others_are _ _ _ owners));
       }

@@ -4,7 +4,7 @@ use Rattle.first_fault.specs.Passes.{each_after}
 use Rattle.first_fault.proofs.Leading.{Leads}
 use Rattle.net_build.specs.Table.{repeated_agent_row}
 use Rattle.net_build.proofs.LinkLemmas.{Behind}
-use Rattle.net_build.proofs.owner_names.check_distinct.Given as goal
+use Rattle.net_build.proofs.owner_names.see_agents.Given as goal
 
 -- the names so far have been seen, and what those still to come find, the whole pass finds
 abbrev pub invariant-loop-place : goal.invariant-loop-place

@@ -13,7 +13,7 @@ use Rattle.net_lexer.specs.Token.{text_value}
 use Rattle.net_lexer.specs.declared.tokens.Token.{Token}
 use Rattle.first_fault.proofs.HandedOn.{hands_on}
 use Rattle.net_build.proofs.LinkLemmas.{behind_on, behind_refused, map_more, behind_end}
-use Rattle.net_build.proofs.owner_names.check_distinct.Goals as goal
+use Rattle.net_build.proofs.owner_names.see_agents.Goals as goal
 
 -- the name at a place is the value of the string there
 name_at : (text : List ℕ) (agents : List Token) (names : List (Vec ℕ)) (i : ℕ) (name : Vec ℕ) (agent : Token) → list_of names ≡ map (text_value text) agents → i < length agents → name ≡ get_or names i name → name.items ≡ text_value text (get_or agents i agent)
@@ -28,7 +28,7 @@ returns-in_err-see_agent c =
     let i = c.loop-place.place in
     let agent = get_or agents i no_token in
     let h = c.loop-place-test.true in
-    let name = c.deref.ensures.value ∙ name_at text agents c.args.names.now i c.index-names-place.result no_token c.requires h c.index-names-place.is in
+    let name = c.deref.ensures.value ∙ name_at text agents c.args.names.now i c.index-names-place.result no_token c.requires.names h c.index-names-place.is in
     hands_on build_fault (each_after (repeated_agent_row text) [] agents) _ _ c.from_residual.ensures
     (behind_refused (repeated_agent_row text) agents _ i agent _ h (get_or_default agents i no_token agent h) c.loop-place.invariant.lead
     (subst (λ s. IsFaultOrNoMemory build_fault (seen_agent_row s agent.start (text_value text agent)) c.in_err-see_agent.field-0.0) c.loop-place.invariant.seen
@@ -42,25 +42,22 @@ loop-place-preserved c =
     let agent = get_or agents i no_token in
     let h = c.loop-place-test.true in
     let at = get_or_default agents i no_token agent h in
-    let name = c.deref.ensures.value ∙ name_at text agents c.args.names.now i c.index-names-place.result no_token c.requires h c.index-names-place.is in
+    let name = c.deref.ensures.value ∙ name_at text agents c.args.names.now i c.index-names-place.result no_token c.requires.names h c.index-names-place.is in
     let lacks = subst (λ n. Contains c.loop-place.seen n → ⊥) name c.in_ok-see_agent.ensures.row in
     record {
       seen = map_more (text_value text) agents c.loop-place.seen _ i agent _ h at name c.loop-place.invariant.seen c.in_ok-see_agent.ensures.seen;
       lead = behind_on (repeated_agent_row text) agents _ i agent h at c.loop-place.invariant.lead (subst (λ s. Contains s (text_value text agent) → ⊥) c.loop-place.invariant.seen lacks);
     }
 
-pub new-seen-requires : goal.new-seen-requires
-new-seen-requires c = tt
-
 pub loop-place-init : goal.loop-place-init
-loop-place-init c = record { seen = c.new-seen.ensures; lead = λ outcome h. h }
+loop-place-init c = record { seen = c.requires.none; lead = λ outcome h. h }
 
 pub bounds-agents-place : goal.bounds-agents-place
 bounds-agents-place c = c.loop-place-test.true
 
 pub bounds-names-place : goal.bounds-names-place
 bounds-names-place c =
-    let count : length c.args.names.now ≡ length c.args.agents.now = sym (length-map c.args.names.now (λ (v : Vec ℕ). v.items)) ∙ ap length c.requires ∙ length-map c.args.agents.now (text_value c.args.text.now) in
+    let count : length c.args.names.now ≡ length c.args.agents.now = sym (length-map c.args.names.now (λ (v : Vec ℕ). v.items)) ∙ ap length c.requires.names ∙ length-map c.args.agents.now (text_value c.args.text.now) in
     omega (arith, count, c.loop-place-test.true)
 
 pub see_agent-requires : goal.see_agent-requires
