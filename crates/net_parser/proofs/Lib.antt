@@ -6,5 +6,6 @@ pub mod Refusals
 pub mod Stopping
 pub mod Once
 pub mod Turns
+pub mod Heads
 pub mod Owning
 pub mod Flat

@@ -1,6 +1,6 @@
 -- Why a token may not stand in a place, told by what may stand there.
-use Rattle.std.proofs.Common.{◌≡◌, ℕ, Bool, true, false, ◌||◌, List, [], ◌∷◌, ◌++◌, ◌⊎◌, inl, inr, refl, ap, subst, bytes_eq}
-use Rattle.std.specs.Prelude.{codes, Some, None, if◌then◌else◌}
+use Rattle.std.proofs.Common.{◌≡◌, ℕ, Bool, true, false, ◌||◌, List, [], ◌∷◌, ◌++◌, ◌⊎◌, inl, inr, refl, sym, ap, ◌∙◌, subst, bytes_eq}
+use Rattle.std.specs.Prelude.{codes, Option, Some, None, if◌then◌else◌}
 use Rattle.std.specs.Option.{option_map}
 use Rattle.std.proofs.lemmas.Bool.{false_from_ne_true}
 use Rattle.net_lexer.specs.Token.{is_name}
@@ -160,40 +160,52 @@ known_refusal (within (symbol ∷ after)) l e = elim (own_reason symbol l.token.
 ]
 
 -- an unexpected token is none of these
-foreign_block : (first : Bool) (l : Lexeme) → IsForeignWord l → block_refusal l.token.kind l.bytes ≡ Unexpected → ⊥
-foreign_block first l h e = elim h.is [
-  | inl w ↦ (let f = rw (w.kind, w.bytes) at e in cc)
-  | inr (inl w) ↦ (let f = rw (w.kind, w.bytes) at e in cc)
-  | inr (inr (inl w)) ↦ (let f = rw (w.kind, w.bytes) at e in cc)
-  | inr (inr (inr w)) ↦ (let f = rw (w.kind, w.bytes) at e in cc)
+block_word_refusal : (kind : TokenKind) (bytes word : List ℕ) → kind ≡ kinds.Word → bytes ≡ word → block_refusal kind bytes ≡ Unexpected → block_refusal kinds.Word word ≡ Unexpected
+block_word_refusal kind bytes word is same e =
+    subst (λ b. block_refusal kinds.Word b ≡ Unexpected) same (subst (λ k. block_refusal k bytes ≡ Unexpected) is e)
+
+foreign_block : (l : Lexeme) → IsForeignWord l → block_refusal l.token.kind l.bytes ≡ Unexpected → ⊥
+foreign_block l h e = elim h.is [
+  | inl w ↦ (let f = block_word_refusal l.token.kind l.bytes (codes "continuous") w.kind w.bytes e in cc)
+  | inr (inl w) ↦ (let f = block_word_refusal l.token.kind l.bytes (codes "function") w.kind w.bytes e in cc)
+  | inr (inr (inl w)) ↦ (let f = block_word_refusal l.token.kind l.bytes (codes "class") w.kind w.bytes e in cc)
+  | inr (inr (inr w)) ↦ (let f = block_word_refusal l.token.kind l.bytes (codes "instance") w.kind w.bytes e in cc)
 ]
 
 pub not_foreign : (place : Place) (l : Lexeme) → refusal place l ≡ Unexpected → Foreign place l → ⊥
-not_foreign start l e h = foreign_block true l h.word e
-not_foreign (within []) l e h = foreign_block false l h.word e
+not_foreign start l e h = foreign_block l h.word e
+not_foreign (within []) l e h = foreign_block l h.word e
 not_foreign (within (symbol ∷ after)) l e h = symbol_some symbol h.whole.0 h.whole.1
 
+-- what is still to come behind a word in the symbol's place, and then these, if it may stand there
+abbrev onward : Symbol → List Symbol → List ℕ → Option (List Symbol)
+onward symbol after word = option_map (λ symbols. symbols ++ after) (next symbol kinds.Word word)
+
+word_step : (symbol : Symbol) (after : List Symbol) (l : Lexeme) (word : List ℕ) → l.token.kind ≡ kinds.Word → l.bytes ≡ word → step (within (symbol ∷ after)) l ≡ onward symbol after word
+word_step symbol after l word kind same =
+    ap (λ k. option_map (λ symbols. symbols ++ after) (next symbol k l.bytes)) kind ∙ ap (λ b. onward symbol after b) same
+
+word_refusal : (symbol : Symbol) (l : Lexeme) (word : List ℕ) → l.token.kind ≡ kinds.Word → l.bytes ≡ word → refusal_at symbol l.token.kind l.bytes ≡ refusal_at symbol kinds.Word word
+word_refusal symbol l word kind same =
+    ap (λ k. refusal_at symbol k l.bytes) kind ∙ ap (λ b. refusal_at symbol kinds.Word b) same
+
 -- a place that a name may take is none of a keyword alone
-function_symbol : (symbol : Symbol) (after : List Symbol) (l node : Lexeme) → IsWord (codes "function") l → IsWord (codes "node") node → Stands (within (symbol ∷ after)) node → step (within (symbol ∷ after)) l ≡ None → refusal_at symbol l.token.kind l.bytes ≡ Unexpected → ⊥
-function_symbol (mark kind) after l node word is stands e u =
-    let f = rw is.kind at stands.1 in
-    let g = rw word.kind at e in
-    cc
-function_symbol name after l node word is stands e u = let g = rw (word.kind, word.bytes) at e in cc
-function_symbol node_word after l node word is stands e u = let g = rw (word.kind, word.bytes) at u in cc
-function_symbol (attribute_name false) after l node word is stands e u = let g = rw (word.kind, word.bytes) at e in cc
-function_symbol (attribute_name true) after l node word is stands e u = let g = rw (word.kind, word.bytes) at e in cc
-function_symbol (attributes false) after l node word is stands e u = let g = rw (word.kind, word.bytes) at e in cc
-function_symbol (attributes true) after l node word is stands e u = let g = rw (word.kind, word.bytes) at e in cc
-function_symbol (value depth) after l node word is stands e u = let g = rw word.kind at e in cc
-function_symbol (values depth) after l node word is stands e u = let g = rw word.kind at e in cc
-function_symbol given after l node word is stands e u = let g = rw is.kind at stands.1 in cc
-function_symbol names after l node word is stands e u = let g = rw (word.kind, word.bytes) at e in cc
+function_symbol : (symbol : Symbol) (after symbols : List Symbol) → onward symbol after (codes "node") ≡ Some symbols → onward symbol after (codes "function") ≡ None → refusal_at symbol kinds.Word (codes "function") ≡ Unexpected → ⊥
+function_symbol node_word after symbols stands e u = cc
+function_symbol (attribute_name false) after symbols stands e u = cc
+function_symbol (attribute_name true) after symbols stands e u = cc
+function_symbol (attributes false) after symbols stands e u = cc
+function_symbol (attributes true) after symbols stands e u = cc
+function_symbol symbol after symbols stands e u = cc
 
 pub not_function : (place : Place) (l : Lexeme) → step place l ≡ None → refusal place l ≡ Unexpected → Function place l → ⊥
-not_function start l e u h = let g = rw (h.word.kind, h.word.bytes) at u in cc
-not_function (within []) l e u h = let g = rw (h.word.kind, h.word.bytes) at u in cc
-not_function (within (symbol ∷ after)) l e u h = function_symbol symbol after l h.node h.word h.is h.stands e u
+not_function start l e u h = let g = block_word_refusal l.token.kind l.bytes (codes "function") h.word.kind h.word.bytes u in cc
+not_function (within []) l e u h = let g = block_word_refusal l.token.kind l.bytes (codes "function") h.word.kind h.word.bytes u in cc
+not_function (within (symbol ∷ after)) l e u h =
+    function_symbol symbol after h.stands.0
+    (sym (word_step symbol after h.node (codes "node") h.is.kind h.is.bytes) ∙ h.stands.1)
+    (sym (word_step symbol after l (codes "function") h.word.kind h.word.bytes) ∙ e)
+    (sym (word_refusal symbol l (codes "function") h.word.kind h.word.bytes) ∙ u)
 
 -- a name that no keyword is
 plain : Lexeme
@@ -218,25 +230,26 @@ model_named l h = elim h.is [
   | inr w ↦ record { kind = w.kind; name = rw w.bytes refl; model = rw w.bytes refl }
 ]
 
-model_symbol : (symbol : Symbol) (after : List Symbol) (l : Lexeme) → Named l → Stands (within (symbol ∷ after)) plain → step (within (symbol ∷ after)) l ≡ None → refusal_at symbol l.token.kind l.bytes ≡ Unexpected → ⊥
-unfolding plain
-model_symbol (mark kind) after l is stands e u = let f = stands.1 in let g = rw is.kind at e in cc
-model_symbol name after l is stands e u = let g = rw (is.kind, is.name) at e in cc
-model_symbol node_word after l is stands e u = let f = stands.1 in cc
-model_symbol (attribute_name false) after l is stands e u = let g = rw (is.kind, is.name) at e in cc
-model_symbol (attribute_name true) after l is stands e u = let g = rw (is.kind, is.model) at u in cc
-model_symbol (attributes false) after l is stands e u = let g = rw (is.kind, is.name) at e in cc
-model_symbol (attributes true) after l is stands e u = let g = rw (is.kind, is.model) at u in cc
-model_symbol (value depth) after l is stands e u = let g = rw is.kind at e in cc
-model_symbol (values depth) after l is stands e u = let g = rw is.kind at e in cc
-model_symbol given after l is stands e u = let f = stands.1 in cc
-model_symbol names after l is stands e u = let g = rw (is.kind, is.name) at e in cc
+model_symbol : (symbol : Symbol) (after symbols : List Symbol) (bytes : List ℕ) → is_name bytes ≡ true → is_model_name bytes ≡ true → onward symbol after (codes "a") ≡ Some symbols → onward symbol after bytes ≡ None → refusal_at symbol kinds.Word bytes ≡ Unexpected → ⊥
+model_symbol name after symbols bytes named model stands e u = let g = rw named at e in cc
+model_symbol (attribute_name false) after symbols bytes named model stands e u = let g = rw named at e in cc
+model_symbol (attribute_name true) after symbols bytes named model stands e u = let g = rw model at u in cc
+model_symbol (attributes false) after symbols bytes named model stands e u = let g = rw named at e in cc
+model_symbol (attributes true) after symbols bytes named model stands e u = let g = rw model at u in cc
+model_symbol names after symbols bytes named model stands e u = let g = rw named at e in cc
+model_symbol symbol after symbols bytes named model stands e u = cc
 
 pub not_model : (place : Place) (l : Lexeme) → step place l ≡ None → refusal place l ≡ Unexpected → Model place l → ⊥
 unfolding plain
 not_model start l e u h = let f = (h.others plain plain_name plain_free).1 in cc
 not_model (within []) l e u h = let f = (h.others plain plain_name plain_free).1 in cc
-not_model (within (symbol ∷ after)) l e u h = model_symbol symbol after l (model_named l h.word) (h.others plain plain_name plain_free) e u
+not_model (within (symbol ∷ after)) l e u h =
+    let named = model_named l h.word in
+    let stands = h.others plain plain_name plain_free in
+    model_symbol symbol after stands.0 l.bytes named.name named.model
+    stands.1
+    (sym (word_step symbol after l l.bytes named.kind refl) ∙ e)
+    (sym (word_refusal symbol l l.bytes named.kind refl) ∙ u)
 
 deep_symbol : (symbol : Symbol) (after : List Symbol) (l : Lexeme) → IsMark kinds.ParenOpen l → Stands (within (symbol ∷ after)) (lexeme kinds.Text []) → Stands (within (symbol ∷ after)) (lexeme kinds.Number []) → refusal_at symbol l.token.kind l.bytes ≡ Unexpected → ⊥
 deep_symbol (mark kinds.Text) after l is text number u = let f = number.1 in cc

@@ -4,10 +4,11 @@ use Rattle.net_lexer.specs.declared.tokens.Token.{Token}
 use Rattle.net_lexer.specs.declared.tokens.TokenKind.TheVariants.{Equals, Semicolon}
 use Rattle.net_parser.specs.declared.reader.Stop.{Stop}
 use Rattle.net_parser.specs.declared.trees.BlockKind.{BlockKind}
+use Rattle.net_parser.specs.declared.trees.BlockKind.TheVariants.{Potential}
 use Rattle.net_parser.specs.declared.trees.Value.{Value}
 use Rattle.net_parser.specs.Grammar.{ClosedValues, Rule, is_potential}
 use Rattle.net_parser.specs.Lexemes.{Lexeme}
-use Rattle.net_parser.specs.Reading.{FollowsInBlock, Symbol, attribute_name, body_rest, mark, value}
+use Rattle.net_parser.specs.Reading.{FollowsInBlock, NodeNames, PotentialNames, Symbol, attribute_name, body_rest, mark, value}
 use Rattle.net_parser.specs.Trees.{leaf}
 use Rattle.net_parser.specs.Views.{trees_of, value_tree}
 
@@ -21,6 +22,14 @@ abbrev pub FollowsToBody : {N : Type 0} → Bool → Result (BlockKind × N) Sto
     → List Lexeme → Type 0
 FollowsToBody first result old new =
     FollowsInBlock first (λ head. body_rest (is_potential head.0)) result old new
+
+-- the front of a head of that kind was read, and then the name of a node
+abbrev pub IsNodeHead : BlockKind → BlockKind → List Token → Rule
+IsNodeHead kind read names from to = (read ≡ kind) × NodeNames names from to
+
+-- the front of a potential's head was read, and then its names
+abbrev pub IsPotentialHead : BlockKind → List Token → Rule
+IsPotentialHead read names from to = (read ≡ Potential) × PotentialNames names from to
 
 -- the token and its bytes stand first
 abbrev pub BeginsWithLexeme : List Lexeme → Token → List ℕ → Type 0

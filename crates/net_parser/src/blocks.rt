@@ -4,8 +4,8 @@ ghost use Rattle.std.specs.Prelude.{◌<◌, [], ◌∷◌, length, IfOk, OnOk};
 ghost use Rattle.net_lexer.specs.declared.tokens.TokenKind.TheVariants.{ParenOpen};
 ghost use Rattle.net_parser.specs.Grammar as grammar;
 ghost use Rattle.net_parser.specs.Grammar.{Head, Spells};
-ghost use Rattle.net_parser.specs.Reading.{mark, name, given, names, start, stop, IsReading, Follows, NodeNames, PotentialNames, AddsGiven, FollowsInBlock, body_rest};
-ghost use Rattle.net_parser.specs.ReaderCalls.{FollowsToBody, attribute_symbols};
+ghost use Rattle.net_parser.specs.Reading.{mark, name, given, names, start, stop, IsReading, Follows, AddsGiven, FollowsInBlock, body_rest};
+ghost use Rattle.net_parser.specs.ReaderCalls.{FollowsToBody, IsNodeHead, IsPotentialHead, attribute_symbols};
 
 use crate::reader::{Reader, Stop};
 use crate::words::BlockWord;
@@ -63,26 +63,26 @@ impl<'a> Reader<'_, 'a> {
         Ok(names)
     }
 
-    /// Reads the names of a potential in their parentheses.
-    fn potential_names(&mut self, alloc: Global) -> Result<Vec<Token>, Stop>
-        ensures rule { IfOk result (λ all. PotentialNames all.items self.old self.new) }
+    /// Reads the names of a potential in their parentheses, which end its head.
+    fn potential_head(&mut self, alloc: Global) -> Result<(BlockKind, Vec<Token>), Stop>
+        ensures rule { IfOk result (λ head. IsPotentialHead head.0 head.1.items self.old self.new) }
         ensures follows { Follows (mark ParenOpen ∷ name ∷ given ∷ []) result self.old self.new }
         ensures shorter { OnOk result (length self.new < length self.old) }
     {
         self.expect(TokenKind::ParenOpen)?;
         let title = self.name()?;
-        let names = vec![in alloc; title]?;
-        self.given_names(names)
+        let names = self.given_names(vec![in alloc; title]?)?;
+        Ok((BlockKind::Potential, names))
     }
 
-    /// Reads the name of a node block.
-    fn node_names(&mut self, alloc: Global) -> Result<Vec<Token>, Stop>
-        ensures rule { IfOk result (λ all. NodeNames all.items self.old self.new) }
+    /// Reads the name of a node block of that kind, which ends its head.
+    fn node_head(&mut self, alloc: Global, kind: BlockKind) -> Result<(BlockKind, Vec<Token>), Stop>
+        ensures rule { IfOk result (λ head. IsNodeHead kind head.0 head.1.items self.old self.new) }
         ensures follows { Follows (name ∷ []) result self.old self.new }
         ensures shorter { OnOk result (length self.new < length self.old) }
     {
         let title = self.name()?;
-        Ok(vec![in alloc; title]?)
+        Ok((kind, vec![in alloc; title]?))
     }
 
     /// Reads what stands before a block's body. `net` may only begin the first block.
@@ -96,17 +96,10 @@ impl<'a> Reader<'_, 'a> {
             BlockWord::Net => Ok((BlockKind::Net, Vec::new(alloc))),
             BlockWord::Discrete => {
                 let kind = self.node_word()?;
-                let names = self.node_names(alloc)?;
-                Ok((kind, names))
+                self.node_head(alloc, kind)
             }
-            BlockWord::Node(kind) => {
-                let names = self.node_names(alloc)?;
-                Ok((kind, names))
-            }
-            BlockWord::Potential => {
-                let names = self.potential_names(alloc)?;
-                Ok((BlockKind::Potential, names))
-            }
+            BlockWord::Node(kind) => self.node_head(alloc, kind),
+            BlockWord::Potential => self.potential_head(alloc),
         }
     }
 
