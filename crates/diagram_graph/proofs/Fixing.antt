@@ -7,6 +7,7 @@ use Rattle.std.proofs.lemmas.List.{get_or_past}
 use Rattle.std.proofs.lemmas.List.FromFn.{map-range_with_len_more}
 use Rattle.std.proofs.lemmas.List.Elements.{All-map, All-append, All-nil}
 use Rattle.std.proofs.Math.Path.{fun_ext}
+use Rattle.std.proofs.lemmas.Bool.Decides.{nat_tests}
 use Rattle.std.proofs.Math.Decide.{ℕ_discrete, dec_lt}
 use Rattle.arc_laws.proofs.Alone.{LeavesTo, leaves, states_at, parents_at}
 use Rattle.finite_sums.specs.Sums.{sum_below, nat_sum_over}
@@ -22,6 +23,7 @@ use Rattle.maid_model.specs.Nodes.{agent_of, is_decision, node_at, states_of, pa
 use Rattle.maid_model.specs.Profiles.{pure_row}
 use Rattle.maid_model.specs.Tables.{HasChanceTables, chance_total}
 use Rattle.maid_model.specs.Views.{NodeView, AnswerView}
+use Rattle.diagram_graph.specs.Edited.{IsOthersDecision}
 use Rattle.diagram_graph.specs.Room.{cells_at, rule_cells, rule_cells_at}
 use Rattle.diagram_graph.proofs.Filters.{sum_over_le}
 use Rattle.diagram_graph.proofs.RuleCells.{rules_summed}
@@ -31,6 +33,27 @@ pub fixed_more : (nodes : List NodeView) (agent : ℕ) (answers : List AnswerVie
     → made ≡ map (λ v. fixed_by (node_at nodes v).kind nodes agent answers v) (range_with_len 0 n) → node ≡ fixed_by (node_at nodes n).kind nodes agent answers n
     → made ++ node ∷ [] ≡ map (λ v. fixed_by (node_at nodes v).kind nodes agent answers v) (range_with_len 0 (n + 1))
 fixed_more nodes agent answers n made node e f = (λ i. e i ++ f i ∷ []) ∙ sym (map-range_with_len_more (λ v. fixed_by (node_at nodes v).kind nodes agent answers v) 0 n n (omega arith))
+
+-- another agent's decision takes its choices, and any other node stays
+pub others_fixed : (nodes : List NodeView) (agent : ℕ) (answers : List AnswerView) (v : ℕ) → IsOthersDecision nodes agent v → fixed_by (node_at nodes v).kind nodes agent answers v ≡ as_chance nodes answers v
+others_fixed nodes agent answers v others =
+    ap (λ k. fixed_by k nodes agent answers v) others.0.kind
+    ∙ ap (λ b. cond b (node_at nodes v) (as_chance nodes answers v)) (differ (agent_of nodes v) agent others.1)
+  where
+    differ : (a b : ℕ) → a ≢ b → eqb a b ≡ false
+    differ a b n = grind (arith, nat_tests)
+
+pub own_fixed : (nodes : List NodeView) (agent : ℕ) (answers : List AnswerView) (v : ℕ) → v < length nodes → (IsOthersDecision nodes agent v → ⊥) → fixed_by (node_at nodes v).kind nodes agent answers v ≡ node_at nodes v
+own_fixed nodes agent answers v within own = go (node_at nodes v).kind (λ e n. own (record { within = within; kind = e }, n)) (ℕ_discrete (agent_of nodes v) agent)
+  where
+    same : (a b : ℕ) → a ≡ b → eqb a b ≡ true
+    same a b e = grind (arith, nat_tests)
+
+    go : (k : Kind) → (k ≡ Decision → agent_of nodes v ≢ agent → ⊥) → Dec (agent_of nodes v ≡ agent) → fixed_by k nodes agent answers v ≡ node_at nodes v
+    go Chance none d = refl
+    go Utility none d = refl
+    go Decision none (yes e) = ap (λ b. cond b (node_at nodes v) (as_chance nodes answers v)) (same (agent_of nodes v) agent e)
+    go Decision none (no n) = absurd (none refl n)
 
 -- ---- weights of 0 and 1
 few_weights : (n : ℕ) (choices : List ℕ) → All (λ w. w ≤ 1) (flat_map (pure_row n) choices)

@@ -4,7 +4,7 @@ ghost use Rattle.std.specs.Prelude.{◌≡◌, ◌<◌, ◌≤◌, ◌*◌, ◌�
 ghost use Rattle.maid_model.specs.declared.diagrams.Kind.TheVariants.{Chance};
 ghost use Rattle.maid_model.specs.declared.limits.TheConstants.{MOST_CELLS};
 ghost use Rattle.maid_model.specs.Answers.{FitsAnswers, rows_at};
-ghost use Rattle.maid_model.specs.Edits.{as_chance, made_decision};
+ghost use Rattle.maid_model.specs.Edits.{as_chance, as_decision, made_decision};
 ghost use Rattle.maid_model.specs.Nodes.{IsDecision, node_at};
 ghost use Rattle.maid_model.specs.Profiles.{pure_row};
 ghost use Rattle.diagram_graph.specs.Edited.{DecidesAlone, IsFixedNode, IsOthersDecision, IsWithDecision, pure_cells};
@@ -49,12 +49,13 @@ fn decision_node(
     requires { v < length diagram.now.nodes }
     ensures { IfOk result (λ made. made ≡ made_decision diagram.now.nodes agent v) }
 {
+    let parents = SmallVec::from_slice(alloc, diagram.parents(v))?;
     Ok(Node {
         kind: Kind::Decision,
         owner: agent,
         more: SmallVec::new(alloc),
         states: diagram.states(v),
-        parents: SmallVec::from_slice(alloc, diagram.parents(v))?,
+        parents,
         cells: Vec::new(alloc),
     })
 }
@@ -64,6 +65,22 @@ fn put(nodes: &mut Vec<Node>, v: usize, node: Node)
     ensures { nodes.new.items ≡ slice_set nodes.old.items v node }
 {
     nodes[v] = node;
+}
+
+/// The diagram's nodes with the one as a decision of the agent.
+fn decided_nodes(
+    alloc: Global,
+    diagram: &Diagram,
+    v: usize,
+    agent: usize,
+) -> Result<Vec<Node>, AllocError>
+    requires { v < length diagram.now.nodes }
+    ensures { IfOk result (λ nodes. nodes.items ≡ as_decision diagram.now.nodes agent v) }
+{
+    let made = decision_node(alloc, diagram, v, agent)?;
+    let mut nodes = copy_nodes(alloc, diagram)?;
+    put(&mut nodes, v, made);
+    Ok(nodes)
 }
 
 /// The diagram in which the chance node is a decision of the agent, with the same states and parents and without its
@@ -87,9 +104,7 @@ pub fn make_decision(
     if cells > MOST_RULE_CELLS {
         return Err(MakeFault::TooLarge);
     }
-    let mut nodes = copy_nodes(alloc, diagram)?;
-    let made = decision_node(alloc, diagram, node, agent)?;
-    put(&mut nodes, node, made);
+    let nodes = decided_nodes(alloc, diagram, node, agent)?;
     Ok(with_nodes(alloc, diagram, nodes)?)
 }
 
@@ -138,13 +153,16 @@ fn chance_node(
     requires fits { FitsAnswers diagram.now.nodes answers.now }
     ensures { IfOk result (λ fixed. fixed ≡ as_chance diagram.now.nodes answers.now v) }
 {
+    let states = diagram.states(v);
+    let cells = pure_cells(alloc, rows_at(answers, v), states)?;
+    let parents = SmallVec::from_slice(alloc, diagram.parents(v))?;
     Ok(Node {
         kind: Kind::Chance,
         owner: 0,
         more: SmallVec::new(alloc),
-        states: diagram.states(v),
-        parents: SmallVec::from_slice(alloc, diagram.parents(v))?,
-        cells: pure_cells(alloc, rows_at(answers, v), diagram.states(v))?,
+        states,
+        parents,
+        cells,
     })
 }
 

@@ -7,11 +7,10 @@ ghost use Rattle.maid_model.specs.Graph.{AllDifferent};
 ghost use Rattle.maid_model.specs.Parts.{IsAncestral, part_of, place_in, with_ancestors};
 ghost use Rattle.diagram_graph.specs.Parts.{HasPartDiagram, HasPartNodes, IsRenumbered, ListsSet};
 
-use crate::copies::with_nodes;
+use crate::copies::{copy_node, with_nodes};
 use maid_model::{Diagram, MOST_NODES, Node};
 use node_sets::{NodeSet, ancestors};
 use part_laws::parts_are_diagrams;
-use smallvec::SmallVec;
 use std::alloc::{AllocError, Global};
 
 /// A part of a diagram, and the numbers that its nodes had there, in text order.
@@ -68,20 +67,22 @@ fn places(kept: &[usize]) -> [usize; MOST_NODES]
     places
 }
 
-/// The parents' new numbers.
-fn new_parents(
-    alloc: Global,
-    parents: &[usize],
-    places: &[usize; MOST_NODES],
-) -> Result<SmallVec<usize, 4, Global>, AllocError>
-    requires { (u : ℕ) → Contains parents.now u → u < MOST_NODES }
-    ensures { IfOk result (λ new. new.items ≡ map (slice_index places.now) parents.now) }
+/// Each number's place over the number.
+fn put_places(numbers: &mut [usize], places: &[usize; MOST_NODES])
+    requires { (u : ℕ) → Contains numbers.old u → u < MOST_NODES }
+    ensures { numbers.new ≡ map (slice_index places.now) numbers.old }
 {
-    let mut new = SmallVec::with_capacity(alloc, parents.len())?;
-    for u in parents {
-        new.push(places[*u])?;
+    for i in 0..numbers.len() {
+        numbers[i] = places[numbers[i]];
     }
-    Ok(new)
+}
+
+/// The parents' new numbers over the old ones.
+fn renumber_parents(node: &mut Node, places: &[usize; MOST_NODES])
+    requires { (u : ℕ) → Contains node.old.parents u → u < MOST_NODES }
+    ensures { IsRenumbered places.now node.old node.new }
+{
+    put_places(node.parents.as_mut_slice(), places);
 }
 
 /// A copy of the node with its parents' new numbers.
@@ -89,14 +90,9 @@ fn renumber(alloc: Global, node: &Node, places: &[usize; MOST_NODES]) -> Result<
     requires { (u : ℕ) → Contains node.now.parents u → u < MOST_NODES }
     ensures { IfOk result (IsRenumbered places.now node.now) }
 {
-    Ok(Node {
-        kind: node.kind,
-        owner: node.owner,
-        more: SmallVec::from_slice(alloc, node.more.as_slice())?,
-        states: node.states,
-        parents: new_parents(alloc, node.parents.as_slice(), places)?,
-        cells: Vec::from_slice(alloc, node.cells.as_slice())?,
-    })
+    let mut copy = copy_node(alloc, node)?;
+    renumber_parents(&mut copy, places);
+    Ok(copy)
 }
 
 /// The kept nodes with their parents' new numbers.

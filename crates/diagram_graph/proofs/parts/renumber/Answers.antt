@@ -1,7 +1,11 @@
-use Rattle.std.proofs.Common.{◌∙◌, ℕ, List, subst, ap}
+use Rattle.std.proofs.Common.{◌∙◌, ap, subst, map, slice_index}
 use Rattle.std.specs.Prelude.{Contains}
 use Rattle.maid_model.specs.Views.{NodeView}
+use Rattle.diagram_graph.specs.Edited.{with_parents}
 use Rattle.diagram_graph.proofs.parts.renumber.Goals as goal
 
-pub new_parents-requires : goal.new_parents-requires
-new_parents-requires c u m = c.requires u (subst (λ (us : List ℕ). Contains us u) (c.as_slice-2.ensures ∙ ap (λ (n : NodeView). n.parents) c.node.view_is) m)
+pub renumber_parents-requires : goal.renumber_parents-requires
+renumber_parents-requires c u m = c.requires u (subst (λ (n : NodeView). Contains n.parents u) c.in_ok-copy.ensures m)
+
+pub returns : goal.returns
+returns c = c.renumber_parents.ensures ∙ ap (λ (n : NodeView). with_parents n (map (slice_index c.args.places.now) n.parents)) c.in_ok-copy.ensures
