@@ -1,11 +1,11 @@
 -- What the calls that read node blocks promise.
-use Rattle.std.specs.Prelude.{◌≡◌, ◌∷◌, ℕ, false, Contains, List, [], Option, MatchOption, OnOk, Result, map}
+use Rattle.std.specs.Prelude.{◌≡◌, ◌++◌, ◌∷◌, ℕ, false, Contains, List, [], Option, MatchOption, OnOk, Result, map}
 use Rattle.std.specs.Borrow.{Bor}
 use Rattle.std.specs.Global.{Vec}
 use Rattle.std.specs.Option.{SomeIff}
 use Rattle.first_fault.specs.Answers.{Passes}
 use Rattle.first_fault.specs.Passes.{Pass, each_after, ◌▸◌}
-use Rattle.maid_model.specs.Names.{NamesView, list_of}
+use Rattle.maid_model.specs.Names.{NamesView, list_of, lists_of}
 use Rattle.net_lexer.specs.Token.{text_value}
 use Rattle.net_lexer.specs.declared.tokens.Token.{Token}
 use Rattle.net_parser.specs.Owned.{leaves}
@@ -14,10 +14,12 @@ use Rattle.net_parser.specs.declared.trees.BlockKind.{BlockKind}
 use Rattle.net_build.specs.declared.faults.BuildFault.{BuildFault}
 use Rattle.net_build.specs.declared.faults.BuildFault.TheVariants.{Fault, NoMemory}
 use Rattle.net_build.specs.declared.faults.BuildKind.TheVariants.{BadAgent}
+use Rattle.net_build.specs.declared.nodes.Columns.{Columns}
 use Rattle.net_build.specs.declared.nodes.Entry.{Entry}
 use Rattle.net_build.specs.declared.owners.Owners.{Owners}
 use Rattle.net_build.specs.Answered.{texts_in}
 use Rattle.net_build.specs.Blocks.{block_labels, block_name, block_states, counted_in, is_string, kind_of, named_owner_places, owner_attributes, owner_places, place_among, state_attributes, title_at, with_sight, with_sights}
+use Rattle.net_build.specs.Lists.{numbers_of_lists}
 use Rattle.net_build.specs.Passes.{Found, build_fault}
 use Rattle.net_build.specs.Stages.{NodeLists, with_named_owners, with_owners}
 use Rattle.net_build.specs.Table.{agent_rows, block_owner_rows, block_states_rows, node_rows, repeated_row, repeats, sight_row, states_rows}
@@ -123,6 +125,22 @@ pub record IsEntryOf
   pub kind : entry.head.kind ≡ kind_of block.kind
   pub states : entry.head.states ≡ block_states text block
   pub owners : entry.head.owner ∷ entry.more.items ≡ owner_places text (texts_in agents) block
+
+-- the entry's parts were added at the ends of the columns
+pub record AddsEntry (entry : Entry) (before now : Columns) : Type 0 where
+  pub labels : now.labels.items ≡ before.labels.items ++ entry.labels ∷ []
+  pub heads : now.heads.items ≡ before.heads.items ++ entry.head ∷ []
+  pub more : now.more.items ≡ before.more.items ++ entry.more ∷ []
+
+-- these names, agents and columns as plain lists
+abbrev pub lists_in : List (List ℕ) → Vec (Vec ℕ) → Columns → NodeLists
+lists_in names agents columns = record {
+  names = names;
+  labels = lists_of columns.labels.items;
+  agents = texts_in agents;
+  heads = columns.heads.items;
+  more = numbers_of_lists columns.more.items;
+}
 
 -- the names, labels and agents that the node blocks say
 abbrev pub names_from : NodeLists → NamesView

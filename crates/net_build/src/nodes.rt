@@ -8,7 +8,7 @@ ghost use Rattle.net_build.specs.Passes.{build_fault};
 ghost use Rattle.net_build.specs.Stages.{node_lists};
 ghost use Rattle.net_build.specs.Table.{name_rows, node_pass};
 ghost use Rattle.net_parser.specs.Owned.{IsBlockOf};
-ghost use Rattle.net_build.specs.NodeCalls.{AddsOwners, AreLabelsOf, IsEntryOf, PassesNode, attribute_rows};
+ghost use Rattle.net_build.specs.NodeCalls.{AddsEntry, AddsOwners, AreLabelsOf, IsEntryOf, PassesNode, attribute_rows, lists_in};
 
 use crate::attributes::check_repeats;
 use crate::distinct_names::DistinctNames;
@@ -65,6 +65,14 @@ struct Entry {
     labels: Vec<Vec<u8>>,
     head: Head,
     more: Vec<usize>,
+}
+
+// What the node blocks say beside names and agents, node by node.
+#[derive(Drop)]
+struct Columns {
+    labels: Vec<Vec<Vec<u8>>>,
+    heads: Vec<Head>,
+    more: Vec<Vec<usize>>,
 }
 
 fn is_node(kind: BlockKind) -> bool
@@ -182,51 +190,65 @@ fn read_entry(
     })
 }
 
-// Adds what one node block says. It stands apart since each refusal in `read_blocks` drops all that was read so far, and
-// each such drop is proved.
-fn enter(
-    names: &mut DistinctNames,
-    labels: &mut Vec<Vec<Vec<u8>>>,
-    heads: &mut Vec<Head>,
-    more: &mut Vec<Vec<usize>>,
-    entry: Entry,
-) -> Result<(), AllocError>
+// Adds what one node block says. It stands apart since each refusal in `add_blocks` would drop the entry, and each such
+// drop is proved.
+fn enter(names: &mut DistinctNames, columns: &mut Columns, entry: Entry) -> Result<(), AllocError>
     requires { ¬ Contains names.old entry.name.items }
     ensures names { OnOk result (names.new ≡ names.old ++ entry.name.items ∷ []) }
-    ensures labels { OnOk result (labels.new.items ≡ labels.old.items ++ entry.labels ∷ []) }
-    ensures heads { OnOk result (heads.new.items ≡ heads.old.items ++ entry.head ∷ []) }
-    ensures more { OnOk result (more.new.items ≡ more.old.items ++ entry.more ∷ []) }
+    ensures columns { OnOk result (AddsEntry entry columns.old columns.new) }
 {
     names.add(entry.name)?;
-    labels.push(entry.labels)?;
-    heads.push(entry.head)?;
-    more.push(entry.more)?;
+    columns.labels.push(entry.labels)?;
+    columns.heads.push(entry.head)?;
+    columns.more.push(entry.more)?;
     Ok(())
 }
 
-// What the node blocks among these say.
+// Adds what the node blocks among these say, where nothing was said before.
+fn add_blocks(
+    alloc: Global,
+    text: &[u8],
+    blocks: &[Block<'_>],
+    names: &mut DistinctNames,
+    agents: &mut Vec<Vec<u8>>,
+    columns: &mut Columns,
+) -> Result<(), BuildFault>
+    requires blocks { All (IsBlockOf text.now) blocks.now }
+    requires none { lists_in names.old agents.old columns.old ≡ node_lists text.now [] }
+    ensures rows { Passes build_fault (node_pass text.now blocks.now) result }
+    ensures nodes { OnOk result (lists_in names.new agents.new columns.new
+        ≡ node_lists text.now (node_blocks blocks.now)) }
+{
+    for block in blocks {
+        if is_node(block.kind) {
+            let entry = read_entry(alloc, text, block, names, agents)?;
+            enter(names, columns, entry)?;
+        }
+    }
+    Ok(())
+}
+
+// What the node blocks among these say. The lists are made here and filled by a function that borrows them, since each
+// refusal there would drop them, and each such drop is proved.
 fn read_blocks(alloc: Global, text: &[u8], blocks: &[Block<'_>]) -> Result<Nodes, BuildFault>
     requires { All (IsBlockOf text.now) blocks.now }
     ensures rows { Passes build_fault (node_pass text.now blocks.now) result }
     ensures nodes { IfOk result (λ nodes. nodes ≡ node_lists text.now (node_blocks blocks.now)) }
 {
     let mut names = DistinctNames::new(alloc);
-    let mut labels = Vec::new(alloc);
     let mut agents = Vec::new(alloc);
-    let mut heads = Vec::new(alloc);
-    let mut more = Vec::new(alloc);
-    for block in blocks {
-        if is_node(block.kind) {
-            let entry = read_entry(alloc, text, block, &names, &mut agents)?;
-            enter(&mut names, &mut labels, &mut heads, &mut more, entry)?;
-        }
-    }
+    let mut columns = Columns {
+        labels: Vec::new(alloc),
+        heads: Vec::new(alloc),
+        more: Vec::new(alloc),
+    };
+    add_blocks(alloc, text, blocks, &mut names, &mut agents, &mut columns)?;
     Ok(Nodes {
         names,
-        labels,
+        labels: columns.labels,
         agents,
-        heads,
-        more,
+        heads: columns.heads,
+        more: columns.more,
     })
 }
 

@@ -7,8 +7,7 @@ use Rattle.first_fault.specs.Passes.{only}
 use Rattle.net_lexer.specs.Token.{token_bytes}
 use Rattle.std.proofs.lemmas.List.{length-map}
 use Rattle.std.proofs.lemmas.Result.{IfOk-from_err}
-use Rattle.std.proofs.Common.{◌≡◌, ◌*◌, length, map, ap, sym, subst, ◌∙◌, rules}
-use Rattle.first_fault.specs.Answers.{IsFaultOrNoMemory}
+use Rattle.std.proofs.Common.{◌≡◌, ◌*◌, length, map, ap, sym, subst, ◌∙◌}
 use Rattle.net_build.specs.Passes.{build_fault}
 use Rattle.net_build.specs.TableParts.{IsDraftOf, data_part, number_rows, weight_part}
 use Rattle.net_build.specs.declared.drafts.Draft.TheVariants.{Cells}
@@ -20,9 +19,8 @@ pub returns-in_err-cells-in-Chance-clause-rows : goal.returns-in_err-cells-in-Ch
 returns-in_err-cells-in-Chance-clause-rows c =
     let same = c.requires.numerals in
     let count : length c.args.numerals.now ≡ c.args.rows * c.args.head.now.states = ap length same ∙ same_count _ _ c.in_ok-decimals.ensures.rows.1.0 in
-    let h : IsFaultOrNoMemory build_fault (data_part c.args.text.now c.args.head.now.kind c.args.rows c.args.head.now.states c.args.table.now) c.in_err-cells-in-Chance.field-0.0 =
-    chance_refused c.args.text.now c.args.head.now.kind c.args.rows c.args.head.now.states _ c.args.table.now c.in-Chance.is c.in_ok-decimals.ensures.rows (ap (λ (a : AttributeTree). a.name.start) c.table.view_is) c.args.numerals.now c.in_err-cells-in-Chance.field-0.0 same (c.in_err-cells-in-Chance.ensures.rows c.args.text.now c.args.rows count (rw c.deref.ensures.value c.in_ok-decimals.ensures.decimals)) in
-    search rules
+    hands_on build_fault (data_part c.args.text.now c.args.head.now.kind c.args.rows c.args.head.now.states c.args.table.now) _ _ c.from_residual-in_err-cells-in-Chance.ensures
+    (chance_refused c.args.text.now c.args.head.now.kind c.args.rows c.args.head.now.states _ c.args.table.now c.in-Chance.is c.in_ok-decimals.ensures.rows (ap (λ (a : AttributeTree). a.name.start) c.table.view_is) c.args.numerals.now c.in_err-cells-in-Chance.field-0.0 same (c.in_err-cells-in-Chance.ensures.rows c.args.text.now c.args.rows count (rw c.deref.ensures.value c.in_ok-decimals.ensures.decimals)))
 
 pub returns-in_ok-cells-in-Chance-clause-rows : goal.returns-in_ok-cells-in-Chance-clause-rows
 returns-in_ok-cells-in-Chance-clause-rows c =

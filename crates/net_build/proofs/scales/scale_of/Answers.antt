@@ -1,19 +1,18 @@
 -- The most decimals are the scale, and to it the values are tried.
-use Rattle.std.proofs.Common.{rules}
-use Rattle.first_fault.specs.Answers.{IsFaultOrNoMemory}
+use Rattle.first_fault.proofs.HandedOn.{hands_on}
 use Rattle.net_build.specs.Passes.{build_fault}
 use Rattle.net_build.specs.TableParts.{IsScaleOf, scaled_pass}
 use Rattle.net_build.proofs.ScaleLemmas.{scale_found, short_refuses, scaled_refuses, scaled_passes}
 use Rattle.net_build.proofs.scales.scale_of.Goals as goal
 
 pub returns-in_err-decimals-clause-rows : goal.returns-in_err-decimals-clause-rows
-returns-in_err-decimals-clause-rows c = let h : IsFaultOrNoMemory build_fault (scaled_pass c.args.text.now c.args.tokens.now) c.in_err-decimals.field-0.0 = short_refuses c.args.text.now c.args.tokens.now c.in_err-decimals.field-0.0 c.requires.short c.in_err-decimals.ensures.rows in search rules
+returns-in_err-decimals-clause-rows c = hands_on build_fault (scaled_pass c.args.text.now c.args.tokens.now) _ _ c.from_residual.ensures (short_refuses c.args.text.now c.args.tokens.now c.in_err-decimals.field-0.0 c.requires.short c.in_err-decimals.ensures.rows)
 
 pub returns-in_err-check_wide-clause-rows : goal.returns-in_err-check_wide-clause-rows
 returns-in_err-check_wide-clause-rows c =
     let is : IsScaleOf c.args.text.now c.args.tokens.now c.most_decimals-scale.result = scale_found c.args.text.now c.args.tokens.now c.deref.result.now c.most_decimals-scale.result (rw c.deref.ensures.value c.in_ok-decimals.ensures.decimals) c.most_decimals-scale.ensures.most c.most_decimals-scale.ensures.reached in
-    let h : IsFaultOrNoMemory build_fault (scaled_pass c.args.text.now c.args.tokens.now) c.in_err-check_wide.field-0.0 = scaled_refuses c.args.text.now c.args.tokens.now c.most_decimals-scale.result c.in_err-check_wide.field-0.0 is (c.in_err-check_wide.ensures c.args.text.now (rw c.deref-2.ensures.value c.in_ok-decimals.ensures.decimals)) in
-    search rules
+    hands_on build_fault (scaled_pass c.args.text.now c.args.tokens.now) _ _ c.from_residual-in_err-check_wide.ensures
+    (scaled_refuses c.args.text.now c.args.tokens.now c.most_decimals-scale.result c.in_err-check_wide.field-0.0 is (c.in_err-check_wide.ensures c.args.text.now (rw c.deref-2.ensures.value c.in_ok-decimals.ensures.decimals)))
 
 pub returns-clause-rows : goal.returns-clause-rows
 returns-clause-rows c =

@@ -2,13 +2,15 @@
 use Rattle.net_build.specs.TableCalls.{values_pass}
 use Rattle.net_build.proofs.OutOfMemory.{out_of_memory}
 use Rattle.std.proofs.lemmas.Result.{IfOk-from_err}
-use Rattle.std.proofs.Common.{None, ◌∙◌, refl, subst}
+use Rattle.std.proofs.Common.{None, ◌∙◌, refl, subst, sym}
+use Rattle.std.proofs.lemmas.List.{length-map}
 use Rattle.std.specs.Result.{IfOk}
 use Rattle.first_fault.specs.Passes.{each}
 use Rattle.net_build.specs.Table.{wide_row}
 use Rattle.first_fault.specs.Answers.{Passes}
 use Rattle.net_build.specs.Passes.{build_fault}
-use Rattle.net_build.specs.Stages.{link_lists}
+use Rattle.net_build.specs.Blocks.{block_name, node_blocks}
+use Rattle.net_build.specs.Stages.{head_of, link_lists}
 use Rattle.net_build.specs.TableParts.{IsScaleOf, scaled_pass, values_in}
 use Rattle.net_build.proofs.DraftScales.{scale_of_them, none_wide_of_them}
 use Rattle.net_build.proofs.ScaleLemmas.{scaled_passes}
@@ -73,3 +75,8 @@ returns-clause-scale c = subst (λ tokens. IfOk c.scale_of.result (IsScaleOf c.a
 
 pub returns-clause-narrow : goal.returns-clause-narrow
 returns-clause-narrow c = subst (λ tokens. IfOk c.scale_of.result (λ scale. each (wide_row c.args.text.now scale) tokens None)) (c.deref.ensures.value ∙ c.in_ok-numbers.ensures) c.scale_of.ensures.narrow
+
+pub utility_numbers-requires-clause-len : goal.utility_numbers-requires-clause-len
+utility_numbers-requires-clause-len c =
+    let nodes = node_blocks c.args.syntax.now in
+    rw c.requires.nodes (length-map nodes (block_name c.args.text.now) ∙ sym (length-map nodes (head_of c.args.text.now nodes)))
