@@ -8,6 +8,8 @@ pub mod Tails
 pub mod InOrder
 pub mod Stops
 pub mod Unended
+pub mod WholeText
+pub mod RowParts
 pub mod Turns
 pub mod OneLine
 pub mod ReportLines

@@ -10,7 +10,7 @@ use Rattle.maid_model.specs.Reports.{gain_line, line, parent_states, quoted, row
 use Rattle.report_text.specs.Slots.{Told, OfRow, OfGain, Shows, lacks, row_words, gain_words}
 use Rattle.report_text.proofs.Stops.{ended_has}
 
-regroup : (a b c d e f : List ℕ) → (a ++ (b ++ c ++ d ++ e)) ++ f ≡ ((a ++ b) ++ ((c ++ d) ++ e)) ++ f
+pub regroup : (a b c d e f : List ℕ) → (a ++ (b ++ c ++ d ++ e)) ++ f ≡ ((a ++ b) ++ ((c ++ d) ++ e)) ++ f
 regroup a b c d e f = simp append_assoc
 
 -- a row's line is its words, ended

@@ -137,7 +137,6 @@ pub fn push_row_front(
 }
 
 /// Appends the line of one row. Rows are numbered from 0 here and from 1 in the text.
-#[tactic(auto, using(std::proofs::Common::append_assoc))]
 pub fn push_row(
     out: &mut Vec<u8>,
     diagram: &Diagram,

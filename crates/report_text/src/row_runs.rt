@@ -24,7 +24,6 @@ struct Sheet<'a> {
 
 /// Appends the line of one row whose parents' states have these labels. Rows are numbered from 0 here and from 1 in the
 /// text.
-#[tactic(auto, using(std::proofs::Common::append_assoc))]
 fn push_labelled(
     out: &mut Vec<u8>,
     labels: &[u8],

@@ -4,6 +4,7 @@ use Rattle.report_text.specs.Laws.{IsToldApart}
 use Rattle.report_text.specs.Slots.{IsStuck, IsTaken, LinesView, Told}
 use Rattle.report_text.proofs.BadLines.{unfinished, unordered, untitled}
 use Rattle.report_text.proofs.ReportLines.{title}
+use Rattle.report_text.proofs.WholeText.{read_as}
 use Rattle.report_text.proofs.reading.read_report.Goals as goal
 
 pub returns-in_err-pass_words-clause-err : goal.returns-in_err-pass_words-clause-err
@@ -26,3 +27,8 @@ returns-clause-err c =
     let taken = subst (λ (l : LinesView). IsTaken (codes "maidsolve report 1") l c.pass_words.new.lines) c.new-lines.ensures c.in_ok-pass_words.ensures.ok in
     MatchResult-weaker c.read_behind.result c.read_behind.ensures.err (λ solved h. h)
     (λ fault stuck. unfinished c.args.diagram.now c.args.names.now told c.args.text.now c.in_ok-order.order.items c.pass_words.new.lines c.next_order.new.lines fault c.in_ok-order.ensures.order taken c.in_ok-order.ensures.taken stuck)
+
+pub returns-clause-ok : goal.returns-clause-ok
+returns-clause-ok c =
+    let taken = subst (λ (l : LinesView). IsTaken (codes "maidsolve report 1") l c.pass_words.new.lines) c.new-lines.ensures c.in_ok-pass_words.ensures.ok in
+    read_as c.args.diagram.now c.args.names.now c.in_ok-order.order.items (record { rest = c.args.text.now; read = 0 }) c.pass_words.new.lines c.next_order.new.lines taken c.in_ok-order.ensures.taken c.read_behind.result c.read_behind.ensures.value c.read_behind.ensures.order c.read_behind.ensures.bytes

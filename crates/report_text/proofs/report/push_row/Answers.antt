@@ -1,0 +1,11 @@
+use Rattle.std.proofs.Common.{[], ◌∷◌}
+use Rattle.std.proofs.lemmas.Result.{on_ok_weaker}
+use Rattle.line_pieces.proofs.Appending.{on_ok}
+use Rattle.report_text.proofs.RowParts.{row_parts}
+use Rattle.report_text.proofs.report.push_row.Goals as goal
+
+pub returns : goal.returns
+returns c =
+    on_ok_weaker c.extend_from_slice.result
+    (λ ended. row_parts c.args.names.now c.args.decision c.args.number c.args.row.now c.args.out.now.items c.push_row_front.new.out.items c.push_state.new.out.items c.push_worth.new.out.items c.extend_from_slice.new.self.items c.args.diagram.now.nodes c.in_ok-push_row_front.ensures c.in_ok-push_state.ensures c.in_ok-push_worth.ensures ended)
+    (on_ok c.extend_from_slice.result c.push_worth.new.out.items (10 ∷ []) _ c.extend_from_slice.ensures.items)
