@@ -102,10 +102,14 @@ is_goal nodes d u = descends nodes d u && is_utility_of nodes (agent_of nodes d)
 abbrev pub goal_list : List NodeView → ℕ → List ℕ
 goal_list nodes d = filter (λ u. is_goal nodes d u) (numbers_of nodes)
 
+-- a plan of a decision's states for each of these goals
+abbrev pub AreGainPlans : List NodeView → ℕ → List ℕ → List SizedPlan → Type 0
+AreGainPlans nodes d goals plans =
+    AllZip (IsPlanned nodes) (map (λ u. gain_plan nodes d u) goals) plans
+
 -- a plan for each goal of a decision, in text order
 abbrev pub ArePlansOfGoals : List NodeView → ℕ → List SizedPlan → Type 0
-ArePlansOfGoals nodes d plans =
-    AllZip (IsPlanned nodes) (map (λ u. gain_plan nodes d u) (goal_list nodes d)) plans
+ArePlansOfGoals nodes d plans = AreGainPlans nodes d (goal_list nodes d) plans
 
 -- the plans of a decision: that of its rows, and those of its states, one for each of its goals
 pub record ArePlansOf

@@ -2,9 +2,11 @@
 
 ghost use Rattle.std.specs.Prelude.{◌≡◌, IfOk};
 ghost use Rattle.maid_model.specs.Nodes.{IsDecision};
+ghost use Rattle.maid_model.specs.Relevance.{IsGoal};
 ghost use Rattle.size_precheck.specs.Decisions.{AreDecisionPlans};
 ghost use Rattle.size_precheck.specs.Families.{IsPlanner};
-ghost use Rattle.size_precheck.specs.Sizes.{ArePlansOfGoals};
+ghost use Rattle.size_precheck.specs.Joints.{HoldsOfEach};
+ghost use Rattle.size_precheck.specs.Sizes.{AreGainPlans, ArePlansOfGoals};
 
 use crate::kinds::{gain_by, rows_by};
 use crate::planners::Planner;
@@ -45,6 +47,26 @@ impl DecisionPlans {
     }
 }
 
+/// The plans of a decision's states, one for each of these goals.
+fn gain_plans(
+    alloc: Global,
+    diagram: &Diagram,
+    planner: &Planner,
+    decision: usize,
+    goals: &[usize],
+) -> Result<Vec<Plan>, AllocError>
+    requires decision { IsDecision diagram.now.nodes decision }
+    requires planner { IsPlanner diagram.now.nodes planner.now }
+    requires goals { HoldsOfEach (IsGoal diagram.now.nodes decision) goals.now }
+    ensures { IfOk result (λ plans. AreGainPlans diagram.now.nodes decision goals.now plans.items) }
+{
+    let mut plans = Vec::with_capacity(alloc, goals.len())?;
+    for goal in goals {
+        plans.push(gain_by(alloc, diagram, planner, decision, *goal)?)?;
+    }
+    Ok(plans)
+}
+
 /// The plans of a decision's states, one for each of its goals in text order.
 fn plan_goals(
     alloc: Global,
@@ -58,11 +80,7 @@ fn plan_goals(
 {
     descent_is_tested();
     let goals = list_members(alloc, &goals_of(diagram, decision))?;
-    let mut plans = Vec::with_capacity(alloc, goals.len())?;
-    for goal in &goals {
-        plans.push(gain_by(alloc, diagram, planner, decision, *goal)?)?;
-    }
-    Ok(plans)
+    gain_plans(alloc, diagram, planner, decision, &goals)
 }
 
 /// The plans of a decision, by what is known of the diagram.
