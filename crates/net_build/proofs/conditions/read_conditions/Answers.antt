@@ -2,7 +2,9 @@
 use Rattle.std.proofs.Common.{get_or, ap, map, ◌∙◌}
 use borrow.Author.Count.{falls}
 use Rattle.std.proofs.lemmas.List.{get_or_default, take_all}
+use Rattle.std.proofs.lemmas.List.Elements.{All-take}
 use Rattle.std.proofs.lemmas.Result.{IfOk-from_err}
+use Rattle.net_lexer.specs.Token.{IsTokenOf}
 use Rattle.net_build.specs.Blocks.{no_token}
 use Rattle.net_build.specs.Linking.{node_named, condition_steps, conditions_steps}
 use Rattle.first_fault.proofs.HandedOn.{hands_on}
@@ -45,3 +47,9 @@ returns-in_err-push-clause-nodes c = IfOk-from_err _ _ c.from_residual-in_err-pu
 
 pub returns-clause-rows : goal.returns-clause-rows
 returns-clause-rows c = behind_end (condition_steps c.args.text.now c.args.names.now c.args.heads.now) c.args.conditions.now _ c.loop-place.place c.loop-place-test.false c.loop-place.invariant.lead
+
+pub read_condition-requires-clause-earlier : goal.read_condition-requires-clause-earlier
+read_condition-requires-clause-earlier c = All-take (IsTokenOf c.args.text.now) c.loop-place.place c.args.conditions.now c.requires.conditions
+
+pub read_condition-requires-clause-name : goal.read_condition-requires-clause-name
+read_condition-requires-clause-name c = c.requires.conditions c.loop-place.place _ c.loop-place-test.true
