@@ -1,4 +1,5 @@
-use Rattle.std.proofs.Common.{◌∷◌, [], ◌++◌, subst}
+use Rattle.std.proofs.Common.{◌∷◌, [], ◌++◌, subst, sym, All, arith}
+use Rattle.maid_model.specs.Nodes.{IsDecision}
 use Rattle.std.specs.List.{flat_map}
 use Rattle.std.proofs.lemmas.Result.{err_from_is_err_and}
 use Rattle.report_text.specs.Slots.{End, IsStuck, ReadsAnswers, ReadsGains, answer_slots, gain_slots}
@@ -44,3 +45,9 @@ returns-clause-bytes c =
     let a = (subst (λ xs. ReadsAnswers c.args.diagram.now.nodes c.args.names.now xs c.in_ok-answers.answers.items c.args.lines.now c.next_answers.new.lines) c.deref.ensures.value c.in_ok-answers.ensures.ok) in
     let g = (subst (λ n. ReadsGains c.args.diagram.now.nodes c.args.names.now n c.in_ok-gains.gains.items c.next_answers.new.lines c.next_gains.new.lines) c.requires.agents (c.in_ok-gains.ensures.ok c.args.diagram.now.nodes)) in
     behind_bytes c.args.diagram.now.nodes c.args.names.now c.args.order.items c.args.diagram.now.agents c.in_ok-answers.answers.items c.in_ok-gains.gains.items c.args.lines.now c.next_answers.new.lines c.next_gains.new.lines a g c.in_ok-pass_end.ensures.ok
+
+pub next_answers-requires-clause-order : goal.next_answers-requires-clause-order
+next_answers-requires-clause-order c = subst (λ xs. All (IsDecision c.args.diagram.now.nodes) xs) (sym c.deref.ensures.value) c.requires.order.decisions
+
+pub next_gains-requires : goal.next_gains-requires
+next_gains-requires c = omega (arith, c.requires.agents, c.requires.fit.agents)
