@@ -1,8 +1,8 @@
 -- What the steps of simulating a plan promise one another. Only private functions cite this file.
-use Rattle.std.specs.Prelude.{◌==◌, ◌||◌, ◌≤◌, slice_index, sum_by, ◌≡◌, ◌⊎◌, ◌↔◌, ℕ, zero, suc, ◌+◌, ◌*◌, ◌<◌, Bool, List, [], ◌∷◌, ◌++◌, map, length, slice_index_or, if◌then◌else◌}
+use Rattle.std.specs.Prelude.{Contains, ◌==◌, ◌||◌, ◌≤◌, slice_index, sum_by, ◌≡◌, ◌⊎◌, ◌↔◌, ℕ, zero, suc, ◌+◌, ◌*◌, ◌<◌, Bool, List, [], ◌∷◌, ◌++◌, map, length, slice_index_or, if◌then◌else◌}
 use Rattle.maid_model.specs.declared.limits.TheConstants.{COUNT_END}
 use Rattle.maid_model.specs.Nodes.{states_of, parents_of}
-use Rattle.plan_sums.specs.Plans.{has}
+use Rattle.plan_sums.specs.Plans.{PlanView, eliminated_nodes, has}
 use Rattle.maid_model.specs.Views.{NodeView, DiagramView}
 use Rattle.node_sets.specs.declared.sets.NodeSet.{NodeSet}
 use Rattle.node_sets.specs.declared.sets.TheConstants.{MOST_NODES}
@@ -16,7 +16,7 @@ use Rattle.size_precheck.specs.declared.simulation.Made.{Made}
 use Rattle.size_precheck.specs.declared.simulation.Run.{Run}
 use Rattle.maid_model.specs.Bounds.{stopped}
 use Rattle.size_precheck.specs.Counts.{counted_cells}
-use Rattle.size_precheck.specs.Greedy.{holding, joined_set, IsGreedy}
+use Rattle.size_precheck.specs.Greedy.{first_scopes, holding, joined_set, IsGreedy}
 use Rattle.size_precheck.specs.Sizes.{made_cells, steps_work}
 
 -- how many of the first n numbers pass the test
@@ -235,6 +235,11 @@ pub record IsGreedyRun
     pub cells : run.cells ≡ stopped (sum_by (λ s. counted_cells nodes s) scopes
         + made_cells nodes run.steps.items scopes)
     pub work : run.work ≡ stopped (steps_work nodes run.steps.items scopes)
+
+-- after the last step of a plan, which eliminates the nodes that it does not keep
+abbrev pub IsRunOfPlan : List NodeView → PlanView → Run → Type 0
+IsRunOfPlan nodes plan run =
+    IsGreedyRun nodes (Contains (eliminated_nodes nodes plan)) (first_scopes nodes plan) run
 
 -- before the first step there is a joint for each node
 abbrev pub HasJointForEach : DiagramView → Start → Type 0

@@ -1,15 +1,17 @@
 //! Plans of elimination.
 
-ghost use Rattle.std.specs.Prelude.{◌≡◌, ◌↔◌, ◌<◌, ℕ, IfOk};
+ghost use Rattle.std.specs.Prelude.{◌≡◌, ◌↔◌, ◌<◌, ◌≤◌, ℕ, IfOk};
+ghost use Rattle.maid_model.specs.declared.limits.TheConstants.{COUNT_END};
 ghost use Rattle.maid_model.specs.Diagrams.{IsDiagram};
 ghost use Rattle.node_sets.specs.declared.sets.TheConstants.{MOST_NODES};
 ghost use Rattle.node_sets.specs.Sets.{IsIn};
 ghost use Rattle.size_precheck.specs.Families.{IsPlanner};
+ghost use Rattle.size_precheck.specs.Joints.{IsRunOfPlan};
 ghost use Rattle.size_precheck.specs.Sizes.{plan_of, CanBePlanned, IsMade, IsMember};
 
 use crate::counts::{add, count_cells, multiply};
 use crate::planners::Planner;
-use crate::simulation::eliminate_all;
+use crate::simulation::{Run, eliminate_all};
 use crate::sizes::Size;
 use crate::starts::{plan_nodes, put_all_first, ruled_nodes, set_of};
 use maid_model::Diagram;
@@ -101,6 +103,31 @@ impl Plan {
     }
 }
 
+/// The steps of what is asked, with what its tables and the steps come to.
+fn run_by(
+    alloc: Global,
+    diagram: &Diagram,
+    planner: &Planner,
+    keep: &[usize],
+    without: Option<usize>,
+    utility: Option<usize>,
+) -> Result<Run, AllocError>
+    requires diagram { IsDiagram diagram.now }
+    requires planner { IsPlanner diagram.now.nodes planner.now }
+    requires asked { CanBePlanned diagram.now.nodes (plan_of keep.now without utility) }
+    ensures run { IfOk result (IsRunOfPlan diagram.now.nodes (plan_of keep.now without utility)) }
+    ensures few { IfOk result (λ run. run.cells ≤ COUNT_END) }
+    ensures little { IfOk result (λ run. run.work ≤ COUNT_END) }
+{
+    let states = planner.states.as_slice();
+    let nodes = plan_nodes(diagram, &planner.families, keep, utility);
+    let kept = set_of(keep);
+    let waiting = nodes.difference(&kept);
+    let ruled = ruled_nodes(&nodes, without);
+    let start = put_all_first(alloc, diagram, planner, &ruled, utility, &waiting)?;
+    eliminate_all(alloc, states, start, waiting)
+}
+
 /// The plan of what is asked, by what is known of the diagram.
 pub fn plan_by(
     alloc: Global,
@@ -115,13 +142,9 @@ pub fn plan_by(
     requires asked { CanBePlanned diagram.now.nodes (plan_of keep.now without utility) }
     ensures { IfOk result (IsMade diagram.now.nodes (plan_of keep.now without utility)) }
 {
+    let run = run_by(alloc, diagram, planner, keep, without, utility)?;
     let states = planner.states.as_slice();
-    let nodes = plan_nodes(diagram, &planner.families, keep, utility);
     let kept = set_of(keep);
-    let waiting = nodes.difference(&kept);
-    let ruled = ruled_nodes(&nodes, without);
-    let start = put_all_first(alloc, diagram, planner, &ruled, utility, &waiting)?;
-    let run = eliminate_all(alloc, states, start, waiting)?;
     let last = count_cells(states, &kept);
     let cells = add(run.cells, last);
     let work = add(run.work, multiply(last, run.live as u64));

@@ -1,108 +1,19 @@
-use Rattle.std.proofs.Common.{◌∙◌, ℕ, ◌≤◌, ◌^◌, Bool, List, [], length, map, ◌++◌, subst, sym, ap, arith}
-use Rattle.std.specs.Prelude.{Contains, option_to_list}
+use Rattle.std.proofs.Common.{◌∙◌, ℕ, ◌≤◌, ◌^◌, List, length, subst, sym, ap, arith}
+use Rattle.std.proofs.lemmas.Result.{IfOk-from_err}
 use Rattle.maid_model.specs.Views.{NodeView}
-use Rattle.node_sets.specs.Sets.{IsIn}
-use Rattle.plan_sums.specs.Plans.{PlanView, ruled_nodes, eliminated_nodes, mass_cells}
-use Rattle.size_precheck.specs.declared.planners.Family.{Family}
-use Rattle.size_precheck.specs.Families.{AreAbove}
-use Rattle.size_precheck.specs.Joints.{AreStateCounts, IsGreedyStart, IsGreedyRun, family_test, parents_test}
-use Rattle.size_precheck.specs.Greedy.{first_scopes, IsGreedyOrder}
+use Rattle.plan_sums.specs.Plans.{PlanView}
+use Rattle.size_precheck.specs.Joints.{AreStateCounts}
 use Rattle.size_precheck.proofs.Counting.{counted_few, stopped_few}
-use Rattle.size_precheck.proofs.Orders.{greedy_same, order_of_greedy}
-use Rattle.size_precheck.proofs.Planning.{all_known, all_plain, all_ruled, in_waiting, ruled_listed, scopes_listed, kept_counted, last_cells, last_work}
+use Rattle.size_precheck.proofs.Orders.{order_of_greedy}
+use Rattle.size_precheck.proofs.Planning.{kept_counted, last_cells, last_work}
 use Rattle.size_precheck.proofs.Starting.{kept_known}
 use Rattle.size_precheck.proofs.plans.plan_by.Goals as goal
 
 pub set_of-kept-requires : goal.set_of-kept-requires
 set_of-kept-requires c v m = let a = kept_known c.args.diagram.now.nodes _ c.requires.asked.is_plan v m in let b = c.requires.diagram.limits.nodes in omega arith
 
-pub ruled_nodes-ruled-requires : goal.ruled_nodes-ruled-requires
-ruled_nodes-ruled-requires c d e = let a = (c.requires.asked.decision d e).within in let b = c.requires.diagram.limits.nodes in omega arith
-
-pub put_all_first-requires-clause-ruled : goal.put_all_first-requires-clause-ruled
-put_all_first-requires-clause-ruled c v m =
-    let plan : PlanView = record { keep = c.args.keep.now; without = c.args.without; utility = c.args.utility } in
-    let inside = ((c.ruled_nodes-ruled.ensures v).0 m).0 in
-    (all_known c.args.diagram.now.nodes plan c.plan_nodes-nodes.result c.plan_nodes-nodes.ensures v inside, all_ruled c.args.diagram.now.nodes plan c.plan_nodes-nodes.result c.plan_nodes-nodes.ensures c.requires.asked.is_plan v inside)
-
-pub put_all_first-requires-clause-waiting : goal.put_all_first-requires-clause-waiting
-put_all_first-requires-clause-waiting c v m =
-    let plan : PlanView = record { keep = c.args.keep.now; without = c.args.without; utility = c.args.utility } in
-    all_known c.args.diagram.now.nodes plan c.plan_nodes-nodes.result c.plan_nodes-nodes.ensures v ((c.difference-waiting.ensures v).0 m).0
-
-pub put_all_first-requires-clause-unruled : goal.put_all_first-requires-clause-unruled
-put_all_first-requires-clause-unruled c u some m =
-    let plan : PlanView = record { keep = c.args.keep.now; without = c.args.without; utility = c.args.utility } in
-    all_plain c.args.diagram.now.nodes plan c.plan_nodes-nodes.result c.plan_nodes-nodes.ensures c.requires.asked.is_plan u some ((c.ruled_nodes-ruled.ensures u).0 m).0
-
-pub put_all_first-requires-clause-kept : goal.put_all_first-requires-clause-kept
-put_all_first-requires-clause-kept c u some m =
-    let plan : PlanView = record { keep = c.args.keep.now; without = c.args.without; utility = c.args.utility } in
-    all_plain c.args.diagram.now.nodes plan c.plan_nodes-nodes.result c.plan_nodes-nodes.ensures c.requires.asked.is_plan u some ((c.difference-waiting.ensures u).0 m).0
-
-pub eliminate_all-requires-clause-within : goal.eliminate_all-requires-clause-within
-eliminate_all-requires-clause-within c y m =
-    let plan : PlanView = record { keep = c.args.keep.now; without = c.args.without; utility = c.args.utility } in
-    let a = all_known c.args.diagram.now.nodes plan c.plan_nodes-nodes.result c.plan_nodes-nodes.ensures y ((c.difference-waiting.ensures y).0 m).0 in
-    let b = c.requires.diagram.limits.nodes in
-    (omega (arith, c.in_ok-start.ensures.len), omega arith)
-
-pub eliminate_all-requires-clause-started : goal.eliminate_all-requires-clause-started
-eliminate_all-requires-clause-started c =
-    let nodes : List NodeView = c.args.diagram.now.nodes in
-    let plan : PlanView = record { keep = c.args.keep.now; without = c.args.without; utility = c.args.utility } in (
-      nodes,
-      map (family_test nodes) (ruled_nodes nodes plan) ++ map (parents_test nodes) (option_to_list plan.utility),
-      subst (λ (xs : List ℕ). IsGreedyStart nodes xs (IsIn c.difference-waiting.result) (map (family_test nodes) (ruled_nodes nodes plan) ++ map (parents_test nodes) (option_to_list plan.utility)) c.in_ok-start.start) (sym c.as_slice-states.ensures.value)
-          (c.in_ok-start.ensures.started (ruled_nodes nodes plan) (ruled_listed nodes plan c.plan_nodes-nodes.result c.plan_nodes-nodes.ensures c.ruled_nodes-ruled.result c.ruled_nodes-ruled.ensures)),
-    )
-
 pub add-cells-requires-clause-b : goal.add-cells-requires-clause-b
 add-cells-requires-clause-b c = subst (λ (n : ℕ). n ≤ 10 ^ 18) (sym c.count_cells-last.ensures) (counted_few _ _)
-
-pub returns : goal.returns
-returns c =
-    let nodes : List NodeView = c.args.diagram.now.nodes in
-    let plan : PlanView = record { keep = c.args.keep.now; without = c.args.without; utility = c.args.utility } in
-    let states = c.as_slice-states.result.now in
-    let are : AreStateCounts nodes states = subst (λ (xs : List ℕ). AreStateCounts nodes xs) (sym c.as_slice-states.ensures.value) c.requires.planner.states in
-    let listed = ruled_listed nodes plan c.plan_nodes-nodes.result c.plan_nodes-nodes.ensures c.ruled_nodes-ruled.result c.ruled_nodes-ruled.ensures in
-    let started : IsGreedyStart nodes states (IsIn c.difference-waiting.result) (first_scopes nodes plan) c.in_ok-start.start =
-    subst (λ (xs : List ℕ). IsGreedyStart nodes xs (IsIn c.difference-waiting.result) (first_scopes nodes plan) c.in_ok-start.start) (sym c.as_slice-states.ensures.value)
-    (subst (λ (ss : List (ℕ → Bool)). IsGreedyStart nodes c.args.planner.now.states.items (IsIn c.difference-waiting.result) ss c.in_ok-start.start) (sym (scopes_listed mass_cells nodes [] plan)) (c.in_ok-start.ensures.started (ruled_nodes nodes plan) listed)) in
-    let run : IsGreedyRun nodes (IsIn c.difference-waiting.result) (first_scopes nodes plan) c.in_ok-run.run' = c.in_ok-run.ensures.run nodes (first_scopes nodes plan) started in
-    let greedy : IsGreedyOrder nodes plan c.in_ok-run.run'.steps.items =
-    greedy_same nodes (IsIn c.difference-waiting.result) (Contains (eliminated_nodes nodes plan)) (first_scopes nodes plan) c.in_ok-run.run'.steps.items
-    (in_waiting nodes plan c.plan_nodes-nodes.result c.plan_nodes-nodes.ensures c.set_of-kept.result c.difference-waiting.result c.set_of-kept.ensures c.difference-waiting.ensures) run.greedy in
-    let last = c.count_cells-last.ensures ∙ kept_counted nodes states c.args.keep.now c.set_of-kept.result are c.set_of-kept.ensures in
-    record {
-      plan = ap (λ (xs : List ℕ). record { keep = xs; without = c.args.without; utility = c.args.utility }) c.in_ok-from_slice.ensures.items;
-      greedy = greedy;
-      order = order_of_greedy nodes plan c.in_ok-run.run'.steps.items greedy;
-      cells = last_cells _ _ _ _ _ run.cells last c.add-cells.ensures;
-      work = last_work _ _ _ _ _ _ _ _ run.work last run.live c.multiply.ensures c.add-work.ensures;
-    }
-
-pub plan_nodes-nodes-requires-clause-diagram : goal.plan_nodes-nodes-requires-clause-diagram
-plan_nodes-nodes-requires-clause-diagram c = c.requires.diagram
-
-pub plan_nodes-nodes-requires-clause-all : goal.plan_nodes-nodes-requires-clause-all
-plan_nodes-nodes-requires-clause-all c = ap (λ (fs : List Family). length fs) c.deref.ensures.value ∙ c.requires.planner.all
-
-pub plan_nodes-nodes-requires-clause-above : goal.plan_nodes-nodes-requires-clause-above
-plan_nodes-nodes-requires-clause-above c = subst (λ (fs : List Family). AreAbove c.args.diagram.now.nodes fs) (sym c.deref.ensures.value) (λ v l. (c.requires.planner.families v l).above)
-
-pub put_all_first-requires-clause-planner : goal.put_all_first-requires-clause-planner
-put_all_first-requires-clause-planner c = c.requires.planner
-
-pub eliminate_all-requires-clause-states : goal.eliminate_all-requires-clause-states
-eliminate_all-requires-clause-states c = ap (λ (xs : List ℕ). length xs) c.as_slice-states.ensures.value ∙ c.requires.planner.long
-
-pub eliminate_all-requires-clause-len : goal.eliminate_all-requires-clause-len
-eliminate_all-requires-clause-len c = c.in_ok-start.ensures.counts
-
-pub eliminate_all-requires-clause-few : goal.eliminate_all-requires-clause-few
-eliminate_all-requires-clause-few c = c.in_ok-start.ensures.few
 
 pub count_cells-last-requires : goal.count_cells-last-requires
 count_cells-last-requires c = ap (λ (xs : List ℕ). length xs) c.as_slice-states.ensures.value ∙ c.requires.planner.long
@@ -116,11 +27,31 @@ add-work-requires-clause-a c = c.in_ok-run.ensures.little
 pub add-work-requires-clause-b : goal.add-work-requires-clause-b
 add-work-requires-clause-b c = subst (λ (n : ℕ). n ≤ 10 ^ 18) (sym c.multiply.ensures) (stopped_few _)
 
-pub plan_nodes-nodes-requires-clause-plan : goal.plan_nodes-nodes-requires-clause-plan
-plan_nodes-nodes-requires-clause-plan c = let plan = c.requires.asked.is_plan in record { different = plan.different; kept = plan.kept; without = λ d e. absurd (cc); utility = plan.utility }
+pub run_by-requires-clause-diagram : goal.run_by-requires-clause-diagram
+run_by-requires-clause-diagram c = c.requires.diagram
 
-pub plan_nodes-nodes-requires-clause-known : goal.plan_nodes-nodes-requires-clause-known
-plan_nodes-nodes-requires-clause-known c = c.requires.asked.known
+pub run_by-requires-clause-planner : goal.run_by-requires-clause-planner
+run_by-requires-clause-planner c = c.requires.planner
 
-pub put_all_first-requires-clause-known : goal.put_all_first-requires-clause-known
-put_all_first-requires-clause-known c = c.requires.asked.known
+pub run_by-requires-clause-asked : goal.run_by-requires-clause-asked
+run_by-requires-clause-asked c = c.requires.asked
+
+pub returns-in_err-run : goal.returns-in_err-run
+returns-in_err-run c = IfOk-from_err _ _ c.from_residual.ensures.0
+
+pub returns : goal.returns
+returns c =
+    let nodes : List NodeView = c.args.diagram.now.nodes in
+    let plan : PlanView = record { keep = c.args.keep.now; without = c.args.without; utility = c.args.utility } in
+    let states = c.as_slice-states.result.now in
+    let are : AreStateCounts nodes states = subst (λ (xs : List ℕ). AreStateCounts nodes xs) (sym c.as_slice-states.ensures.value) c.requires.planner.states in
+    let steps = c.in_ok-run.run'.steps.items in
+    let made = c.in_ok-run.ensures.run in
+    let last = c.count_cells-last.ensures ∙ kept_counted nodes states c.args.keep.now c.set_of-kept.result are c.set_of-kept.ensures in
+    record {
+      plan = ap (λ (xs : List ℕ). record { keep = xs; without = c.args.without; utility = c.args.utility }) c.in_ok-from_slice.ensures.items;
+      greedy = made.greedy;
+      order = order_of_greedy nodes plan steps made.greedy;
+      cells = last_cells _ _ _ _ _ made.cells last c.add-cells.ensures;
+      work = last_work _ _ _ _ _ _ _ _ made.work last made.live c.multiply.ensures c.add-work.ensures;
+    }
