@@ -1,5 +1,5 @@
 -- What the calls that read potentials and look at the graph and the sizes promise.
-use Rattle.std.specs.Prelude.{◌≡◌, ◌<◌, ◌≤◌, ℕ, List, Option, Result, length, map, slice_index, slice_set}
+use Rattle.std.specs.Prelude.{◌≡◌, ◌<◌, ◌≤◌, ℕ, All, List, Option, Result, length, map, slice_index, slice_set}
 use Rattle.std.specs.Borrow.{Bor}
 use Rattle.std.specs.Global.{Vec}
 use Rattle.first_fault.specs.Answers.{Passes}
@@ -11,7 +11,7 @@ use Rattle.net_build.specs.declared.faults.BuildFault.TheVariants.{Fault}
 use Rattle.net_build.specs.declared.faults.BuildKind.TheVariants.{GraphCycle}
 use Rattle.net_build.specs.declared.nodes.Head.{Head}
 use Rattle.net_build.specs.Blocks.{conditions, potentials}
-use Rattle.net_build.specs.Linking.{absent_row, block_steps, borrowed_trees, condition_steps, conditions_steps, links_steps, missing_at, node_named, parents_in, potentials_among, potentials_steps, rules_before}
+use Rattle.net_build.specs.Linking.{AreParents, absent_row, block_steps, borrowed_trees, condition_steps, conditions_steps, links_steps, missing_at, node_named, parents_in, potentials_among, potentials_steps, rules_before}
 use Rattle.net_build.specs.Lists.{numbers_of_lists}
 use Rattle.net_build.specs.Passes.{build_fault}
 use Rattle.net_build.specs.Stages.{LinkLists, cells_of_head, head_at}
@@ -79,6 +79,14 @@ HasPotentials text names blocks links =
 -- for each node the parents that its potential names
 abbrev pub HasParents : List ℕ → List (List ℕ) → LinkLists → Type 0
 HasParents text names links = links.parents ≡ parents_in text names links.potentials
+
+-- for each node the potential that these blocks have for it, and its parents
+pub record AreLinksOf (text : List ℕ) (names : List (List ℕ)) (heads : List Head)
+    (blocks : List BlockTree) (lists : Vec (Vec ℕ))
+    (found : List (Option (Bor BlockTree))) : Type 0 where
+  pub potentials : borrowed_trees found ≡ potentials_among text names (potentials blocks)
+  pub parents : numbers_of_lists lists.items ≡ parents_in text names (borrowed_trees found)
+  pub fit : All (AreParents heads) (numbers_of_lists lists.items)
 
 -- the fault of a cycle in the graph, told where its first node is named
 abbrev pub cycle_fault : List Head → Vec ℕ → BuildFault

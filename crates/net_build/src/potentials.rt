@@ -1,6 +1,6 @@
 //! The potentials of a text, node by node.
 
-ghost use Rattle.std.specs.Prelude.{◌≡◌, ◌≢◌, ◌<◌, true, [], length, drop, replicate, None, All, AllPairs, IfOk};
+ghost use Rattle.std.specs.Prelude.{◌≡◌, ◌≢◌, ◌<◌, true, [], length, drop, replicate, None, All, AllPairs, IfOk, OnOk};
 ghost use Rattle.net_parser.specs.Owned.{IsBlockOf};
 ghost use Rattle.net_parser.specs.Grammar.{is_potential};
 ghost use Rattle.net_build.specs.Blocks.{title, conditions, potentials};
@@ -8,7 +8,7 @@ ghost use Rattle.net_build.specs.Linking.{node_named, borrowed_trees, taken_row,
 ghost use Rattle.net_build.specs.Lists.{numbers_of_lists};
 ghost use Rattle.first_fault.specs.Answers.{Passes};
 ghost use Rattle.net_build.specs.Passes.{build_fault};
-ghost use Rattle.net_build.specs.LinkCalls.{AreConditionNodes, HasParents, HasPotentials, PassesAbsent, PassesBlock, PassesMissing, PassesPotentials, SetsList};
+ghost use Rattle.net_build.specs.LinkCalls.{AreConditionNodes, AreLinksOf, HasParents, HasPotentials, PassesAbsent, PassesBlock, PassesMissing, PassesPotentials, SetsList};
 ghost use Rattle.net_build.specs.TableSteps.{SetsPotential};
 
 use crate::conditions::{read_conditions, read_name};
@@ -137,6 +137,35 @@ fn enter<P: Drop>(
     potentials[node] = Some(potential);
 }
 
+// Enters the parents and the potential of each node that has a potential, where no node has any. It stands apart since
+// each refusal in it would drop the lists, and each such drop is proved.
+fn enter_potentials<'a, 't>(
+    alloc: Global,
+    text: &[u8],
+    syntax: &'a Syntax<'t>,
+    names: &DistinctNames,
+    heads: &[Head],
+    parents: &mut Vec<Vec<usize>>,
+    potentials: &mut Vec<Option<&'a Block<'t>>>,
+) -> Result<(), BuildFault>
+    requires blocks { All (IsBlockOf text.now) syntax.now }
+    requires heads { length heads.now ≡ length names.now }
+    requires names { AllPairs (λ name later. name ≢ later) names.now }
+    requires no_parents { numbers_of_lists parents.old.items ≡ replicate (length names.now) [] }
+    requires no_potentials { borrowed_trees potentials.old.items ≡ replicate (length names.now) None }
+    ensures rows { PassesPotentials text.now names.now heads.now syntax.now result }
+    ensures links { OnOk result (AreLinksOf text.now names.now heads.now syntax.now
+        parents.new potentials.new.items) }
+{
+    for block in &syntax.blocks {
+        if is_potential(block) {
+            let (node, list) = read_potential(alloc, text, names, heads, potentials, block)?;
+            enter(parents, potentials, node, list, block);
+        }
+    }
+    Ok(())
+}
+
 /// The parents and the potential of each node.
 pub fn read_potentials<'a, 't>(
     alloc: Global,
@@ -155,12 +184,15 @@ pub fn read_potentials<'a, 't>(
 {
     let mut parents = no_parents(alloc, names.len())?;
     let mut potentials = nothing_each(alloc, names.len())?;
-    for block in &syntax.blocks {
-        if is_potential(block) {
-            let (node, list) = read_potential(alloc, text, names, heads, &potentials, block)?;
-            enter(&mut parents, &mut potentials, node, list, block);
-        }
-    }
+    enter_potentials(
+        alloc,
+        text,
+        syntax,
+        names,
+        heads,
+        &mut parents,
+        &mut potentials,
+    )?;
     Ok(Links {
         parents,
         potentials,

@@ -10,7 +10,7 @@ pub returns-then-is_named-clause-first : goal.returns-then-is_named-clause-first
 returns-then-is_named-clause-first c = (
   named c.args.text.now c.args.word.now (drop (c.loop-attribute.attribute-index + 1) c.args.attributes.now),
   sym c.loop-attribute.invariant
-  ∙ filter_rest_yes (λ a. bytes_eq (word_of c.args.text.now a) c.args.word.now) c.args.attributes.now c.loop-attribute.attribute-index c.attribute-item.result c.loop-attribute-test.true c.attribute-item.is (sym c.is_named.ensures ∙ c.if-is_named.true),
+      ∙ filter_rest_yes (λ a. bytes_eq (word_of c.args.text.now a) c.args.word.now) c.args.attributes.now c.loop-attribute.attribute-index c.attribute-item.result c.loop-attribute-test.true c.attribute-item.is (sym c.is_named.ensures ∙ c.if-is_named.true),
 )
 
 pub loop-attribute-preserved : goal.loop-attribute-preserved

@@ -1,5 +1,5 @@
 -- A table for each node that needs one, no cycle, and the sizes, one after the other.
-use Rattle.std.proofs.Common.{◌<◌, sym, subst}
+use Rattle.std.proofs.Common.{rules, None, ◌<◌, sym, subst}
 use Rattle.std.proofs.lemmas.Result.{IfOk-from_err}
 use Rattle.first_fault.specs.Passes.{◌▸◌}
 use Rattle.first_fault.proofs.Leading.{refused_first, refused_later}
@@ -51,9 +51,10 @@ pub returns-in_err-check_sizes-clause-rows : goal.returns-in_err-check_sizes-cla
 returns-in_err-check_sizes-clause-rows c =
     let missing = missing_steps c.args.heads.now (borrowed_trees c.args.potentials.now) in
     let parents = numbers_of_lists c.args.parents.now in
+    let graph : graph_steps c.args.heads.now parents None = search rules in
     hands_on build_fault (links_steps c.args.heads.now (borrowed_trees c.args.potentials.now) parents) _ _ c.from_residual-in_err-check_sizes.ensures
     (refused_later missing (graph_steps c.args.heads.now parents ▸ size_steps c.args.heads.now parents) _ c.in_ok-check_tables.ensures
-    (refused_later (graph_steps c.args.heads.now parents) (size_steps c.args.heads.now parents) _ c.in_ok-check_graph.ensures c.in_err-check_sizes.ensures.rows))
+    (refused_later (graph_steps c.args.heads.now parents) (size_steps c.args.heads.now parents) _ graph c.in_err-check_sizes.ensures.rows))
 
 pub returns-in_err-check_sizes-clause-fit : goal.returns-in_err-check_sizes-clause-fit
 returns-in_err-check_sizes-clause-fit c = IfOk-from_err _ _ c.from_residual-in_err-check_sizes.ensures.0

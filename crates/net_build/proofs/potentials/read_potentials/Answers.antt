@@ -1,123 +1,48 @@
--- A potential's rows are the first of those still to come, and it is entered where its head's name stands.
-use borrow.Author.Count.{falls}
-use Rattle.net_build.proofs.OutOfMemory.{out_of_memory}
+-- No node has parents or a potential at first.
+use Rattle.std.proofs.Common.{[], None, replicate, ap, ◌∙◌}
 use Rattle.std.proofs.lemmas.Result.{IfOk-from_err}
-use Rattle.std.proofs.Common.{◌≡◌, ℕ, ◌<◌, ◌≤◌, true, false, List, [], length, get_or, All, Option, None, replicate, take, filter, sym, ap, subst, ◌∙◌}
-use Rattle.std.proofs.lemmas.List.{take_all, map-set, length-map}
-use Rattle.std.proofs.lemmas.List.Elements.{All-set}
-use Rattle.std.specs.Global.{Vec}
-use Rattle.std.specs.Option.{option_map}
-use Rattle.net_build.proofs.FitLemmas.{none_fit_all}
-use Rattle.net_parser.specs.Owned.{IsBlockOf}
-use Rattle.net_parser.specs.Trees.{BlockTree}
-use Rattle.net_parser.specs.Grammar.{is_potential}
-use Rattle.net_build.specs.Linking.{borrowed_trees, behind_rows, potentials_steps, potentials_among, parents_in, AreParents}
-use Rattle.net_build.specs.Lists.{numbers_of_lists}
 use Rattle.first_fault.proofs.HandedOn.{hands_on}
+use Rattle.net_build.specs.Linking.{borrowed_trees, potentials_steps}
 use Rattle.net_build.specs.Passes.{build_fault}
-use Rattle.net_build.proofs.LinkPasses.{length_among, length_in}
-use Rattle.first_fault.proofs.Leading.{after_refused, after_skip, after_step, leads_all, filter_front_no, after_end}
-use Rattle.net_build.proofs.PotentialLemmas.{no_trees, none_among, none_in, entered_from, parents_from}
+use Rattle.net_build.proofs.OutOfMemory.{out_of_memory}
+use Rattle.net_build.proofs.PotentialLemmas.{no_trees}
 use Rattle.net_build.proofs.potentials.read_potentials.Goals as goal
-use Rattle.net_build.proofs.potentials.read_potentials.Goals.{then-is_potential+in_ok-node, else-is_potential}
 
-pub loop-block-init : goal.loop-block-init
-loop-block-init c =
-    let none : borrowed_trees c.in_ok-potentials.potentials.items ≡ replicate c.len-2.result None = ap borrowed_trees c.in_ok-potentials.ensures ∙ no_trees c.len-2.result in
-    record {
-      potentials = none ∙ ap (λ n. replicate n None) c.len-2.ensures ∙ none_among c.args.text.now c.args.names.now;
-      parents = c.in_ok-parents.ensures ∙ ap (λ n. replicate n []) c.len.ensures ∙ none_in c.args.text.now c.args.names.now (length c.args.names.now) ∙ ap (λ n. parents_in c.args.text.now c.args.names.now (replicate n None)) (sym c.len-2.ensures) ∙ ap (parents_in c.args.text.now c.args.names.now) (sym none);
-      fit = subst (All (AreParents c.args.heads.now)) (sym c.in_ok-parents.ensures) (none_fit_all c.args.heads.now c.len.result);
-      lead = leads_all _;
-    }
+pub enter_potentials-requires-clause-blocks : goal.enter_potentials-requires-clause-blocks
+enter_potentials-requires-clause-blocks c = c.requires.blocks
 
-pub read_potential-requires-clause-block : goal.read_potential-requires-clause-block
-read_potential-requires-clause-block c =
-    let blocks : c.deref-block-items.result.now ≡ c.args.syntax.now = c.deref-block-items.ensures.value ∙ c.syntax.view_is in
-    let within : c.loop-block.block-index < length c.args.syntax.now = subst (λ (bs : List BlockTree). c.loop-block.block-index < length bs) blocks c.loop-block-test.true in
-    let is : c.block-item.result ≡ get_or c.args.syntax.now c.loop-block.block-index c.block-item.result = c.block-item.is ∙ ap (λ bs. get_or bs c.loop-block.block-index c.block-item.result) blocks in
-    subst (IsBlockOf c.args.text.now) (sym is) (c.requires.blocks c.loop-block.block-index c.block-item.result within)
+pub enter_potentials-requires-clause-heads : goal.enter_potentials-requires-clause-heads
+enter_potentials-requires-clause-heads c = c.requires.heads
 
-pub read_potential-requires-clause-potential : goal.read_potential-requires-clause-potential
-read_potential-requires-clause-potential c = sym c.is_potential.ensures ∙ c.if-is_potential.true
+pub enter_potentials-requires-clause-names : goal.enter_potentials-requires-clause-names
+enter_potentials-requires-clause-names c = c.requires.names
 
-pub read_potential-requires-clause-potentials : goal.read_potential-requires-clause-potentials
-read_potential-requires-clause-potentials c =
-    ap length c.deref.ensures.value ∙ sym (length-map c.loop-block.potentials.items (option_map (λ p. p.now)))
-    ∙ length_among c.args.text.now c.args.names.now (filter (λ b. is_potential b.kind) (take c.loop-block.block-index c.args.syntax.now)) (borrowed_trees c.loop-block.potentials.items) c.loop-block.invariant.potentials
+pub enter_potentials-requires-clause-no_parents : goal.enter_potentials-requires-clause-no_parents
+enter_potentials-requires-clause-no_parents c = c.in_ok-parents.ensures ∙ ap (λ n. replicate n []) c.len.ensures
 
-pub enter-requires-clause-parents : goal.enter-requires-clause-parents
-enter-requires-clause-parents c =
-    let trees = borrowed_trees c.loop-block.potentials.items in
-    let count : length c.loop-block.parents.items ≡ length c.args.names.now =
-    sym (length-map c.loop-block.parents.items (λ (v : Vec ℕ). v.items))
-    ∙ length_in c.args.text.now c.args.names.now trees (numbers_of_lists c.loop-block.parents.items) c.loop-block.invariant.parents
-    ∙ length_among c.args.text.now c.args.names.now (filter (λ b. is_potential b.kind) (take c.loop-block.block-index c.args.syntax.now)) trees c.loop-block.invariant.potentials in
-    subst (λ n. c.in_ok-node.node < n) (sym count) c.in_ok-node.ensures.within
-
-pub enter-requires-clause-potentials : goal.enter-requires-clause-potentials
-enter-requires-clause-potentials c =
-    let count : length c.loop-block.potentials.items ≡ length c.args.names.now =
-    sym (length-map c.loop-block.potentials.items (option_map (λ p. p.now)))
-    ∙ length_among c.args.text.now c.args.names.now (filter (λ b. is_potential b.kind) (take c.loop-block.block-index c.args.syntax.now)) (borrowed_trees c.loop-block.potentials.items) c.loop-block.invariant.potentials in
-    subst (λ n. c.in_ok-node.node < n) (sym count) c.in_ok-node.ensures.within
-
-pub returns-in_err-node-clause-rows : goal.returns-in_err-node-clause-rows
-returns-in_err-node-clause-rows c =
-    let blocks : c.deref-block-items.result.now ≡ c.args.syntax.now = c.deref-block-items.ensures.value ∙ c.syntax.view_is in
-    let within : c.loop-block.block-index < length c.args.syntax.now = subst (λ (bs : List BlockTree). c.loop-block.block-index < length bs) blocks c.loop-block-test.true in
-    let is : c.block-item.result ≡ get_or c.args.syntax.now c.loop-block.block-index c.block-item.result = c.block-item.is ∙ ap (λ bs. get_or bs c.loop-block.block-index c.block-item.result) blocks in
-    let kept : is_potential c.block-item.result.kind ≡ true = sym c.is_potential.ensures ∙ c.if-is_potential.true in
-    let trees : borrowed_trees c.deref.result.now ≡ potentials_among c.args.text.now c.args.names.now (filter (λ b. is_potential b.kind) (take c.loop-block.block-index c.args.syntax.now)) = ap borrowed_trees c.deref.ensures.value ∙ c.loop-block.invariant.potentials in
-    hands_on build_fault (potentials_steps c.args.text.now c.args.names.now c.args.heads.now c.args.syntax.now) _ _ c.from_residual-in_err-node.ensures
-    (after_refused (behind_rows c.args.text.now c.args.names.now c.args.heads.now) (λ b. is_potential b.kind) c.args.syntax.now _ c.loop-block.block-index c.block-item.result _ within is kept c.loop-block.invariant.lead
-    (rw (← trees) c.in_err-node.ensures.rows))
-
-pub loop-block-preserved : goal.loop-block-preserved
-loop-block-preserved c =
-    let blocks : c.deref-block-items.result.now ≡ c.args.syntax.now = c.deref-block-items.ensures.value ∙ c.syntax.view_is in
-    let within : c.loop-block.block-index < length c.args.syntax.now = subst (λ (bs : List BlockTree). c.loop-block.block-index < length bs) blocks c.loop-block-test.true in
-    let is : c.block-item.result ≡ get_or c.args.syntax.now c.loop-block.block-index c.block-item.result = c.block-item.is ∙ ap (λ bs. get_or bs c.loop-block.block-index c.block-item.result) blocks in
-    elim c.if-is_potential.branch [
-      | then-is_potential+in_ok-node w ↦
-          let kept : is_potential c.block-item.result.kind ≡ true = sym c.is_potential.ensures ∙ w.if-is_potential.true in
-          let trees : borrowed_trees w.deref.result.now ≡ potentials_among c.args.text.now c.args.names.now (filter (λ b. is_potential b.kind) (take c.loop-block.block-index c.args.syntax.now)) = ap borrowed_trees w.deref.ensures.value ∙ c.loop-block.invariant.potentials in
-          let rows : behind_rows c.args.text.now c.args.names.now c.args.heads.now (filter (λ b. is_potential b.kind) (take c.loop-block.block-index c.args.syntax.now)) c.block-item.result None = rw (← trees) w.in_ok-node.ensures.rows in
-          let now : borrowed_trees c.if-is_potential.potentials.items ≡ borrowed_trees w.enter.new.potentials.items = ap (λ (v : Vec (Option _)). borrowed_trees v.items) w.potentials-is in
-          let made = now ∙ ap borrowed_trees w.enter.ensures.potentials ∙ map-set (option_map (λ p. p.now)) _ w.in_ok-node.node _ in
-          let new : numbers_of_lists c.if-is_potential.parents.items ≡ numbers_of_lists w.enter.new.parents.items = ap (λ (v : Vec (Vec ℕ)). numbers_of_lists v.items) w.parents-is in
-          record {
-            potentials = entered_from c.args.text.now c.args.names.now c.args.syntax.now c.loop-block.block-index c.block-item.result w.in_ok-node.node _ _ within is kept c.requires.names w.in_ok-node.ensures.within w.in_ok-node.ensures.node rows.1.0 c.loop-block.invariant.potentials made;
-            parents = parents_from c.args.text.now c.args.names.now w.in_ok-node.node c.block-item.result _ _ _ _ _ w.in_ok-node.ensures.parents c.loop-block.invariant.parents made (new ∙ w.enter.ensures.parents);
-            fit = subst (All (AreParents c.args.heads.now)) (sym (new ∙ w.enter.ensures.parents)) (All-set (AreParents c.args.heads.now) _ w.in_ok-node.node _ w.in_ok-node.ensures.fit c.loop-block.invariant.fit);
-            lead = after_step (behind_rows c.args.text.now c.args.names.now c.args.heads.now) (λ b. is_potential b.kind) c.args.syntax.now _ c.loop-block.block-index c.block-item.result within is kept c.loop-block.invariant.lead rows;
-          }
-      | else-is_potential w ↦
-          let left : is_potential c.block-item.result.kind ≡ false = sym c.is_potential.ensures ∙ w.if-is_potential.false in
-          let now : borrowed_trees c.if-is_potential.potentials.items ≡ borrowed_trees c.loop-block.potentials.items = ap (λ (v : Vec (Option _)). borrowed_trees v.items) w.potentials-is in
-          let new : numbers_of_lists c.if-is_potential.parents.items ≡ numbers_of_lists c.loop-block.parents.items = ap (λ (v : Vec (Vec ℕ)). numbers_of_lists v.items) w.parents-is in
-          record {
-            potentials = now ∙ c.loop-block.invariant.potentials ∙ ap (potentials_among c.args.text.now c.args.names.now) (sym (filter_front_no (λ b. is_potential b.kind) c.args.syntax.now c.loop-block.block-index c.block-item.result within is left));
-            parents = new ∙ c.loop-block.invariant.parents ∙ ap (parents_in c.args.text.now c.args.names.now) (sym now);
-            fit = subst (All (AreParents c.args.heads.now)) (sym new) c.loop-block.invariant.fit;
-            lead = after_skip (behind_rows c.args.text.now c.args.names.now c.args.heads.now) (λ b. is_potential b.kind) c.args.syntax.now _ c.loop-block.block-index c.block-item.result within is left c.loop-block.invariant.lead;
-          }
-    ]
-
-pub returns-clause-potentials : goal.returns-clause-potentials
-returns-clause-potentials c =
-    let blocks : c.deref-block-items.result.now ≡ c.args.syntax.now = c.deref-block-items.ensures.value ∙ c.syntax.view_is in
-    let end : length c.args.syntax.now ≤ c.loop-block.block-index = subst (λ (bs : List BlockTree). length bs ≤ c.loop-block.block-index) blocks c.loop-block-test.false in
-    c.loop-block.invariant.potentials ∙ ap (λ bs. potentials_among c.args.text.now c.args.names.now (filter (λ b. is_potential b.kind) bs)) (take_all c.loop-block.block-index c.args.syntax.now end)
-
-pub returns-clause-parents : goal.returns-clause-parents
-returns-clause-parents c = c.loop-block.invariant.parents
-
-pub returns-clause-fit : goal.returns-clause-fit
-returns-clause-fit c = c.loop-block.invariant.fit
+pub enter_potentials-requires-clause-no_potentials : goal.enter_potentials-requires-clause-no_potentials
+enter_potentials-requires-clause-no_potentials c = ap borrowed_trees c.in_ok-potentials.ensures ∙ no_trees c.len-2.result ∙ ap (λ n. replicate n None) c.len-2.ensures
 
 pub returns-in_err-parents-clause-rows : goal.returns-in_err-parents-clause-rows
 returns-in_err-parents-clause-rows c = out_of_memory (potentials_steps c.args.text.now c.args.names.now c.args.heads.now c.args.syntax.now) _ c.from_residual.ensures
+
+pub returns-in_err-potentials-clause-rows : goal.returns-in_err-potentials-clause-rows
+returns-in_err-potentials-clause-rows c = out_of_memory (potentials_steps c.args.text.now c.args.names.now c.args.heads.now c.args.syntax.now) _ c.from_residual-in_err-potentials.ensures
+
+pub returns-in_err-enter_potentials-clause-rows : goal.returns-in_err-enter_potentials-clause-rows
+returns-in_err-enter_potentials-clause-rows c = hands_on build_fault (potentials_steps c.args.text.now c.args.names.now c.args.heads.now c.args.syntax.now) _ _ c.from_residual-in_err-enter_potentials.ensures c.in_err-enter_potentials.ensures.rows
+
+pub returns-clause-rows : goal.returns-clause-rows
+returns-clause-rows c = c.in_ok-enter_potentials.ensures.rows
+
+pub returns-clause-potentials : goal.returns-clause-potentials
+returns-clause-potentials c = c.in_ok-enter_potentials.ensures.links.potentials
+
+pub returns-clause-parents : goal.returns-clause-parents
+returns-clause-parents c = c.in_ok-enter_potentials.ensures.links.parents
+
+pub returns-clause-fit : goal.returns-clause-fit
+returns-clause-fit c = c.in_ok-enter_potentials.ensures.links.fit
 
 pub returns-in_err-parents-clause-potentials : goal.returns-in_err-parents-clause-potentials
 returns-in_err-parents-clause-potentials c = IfOk-from_err _ _ c.from_residual.ensures.0
@@ -128,9 +53,6 @@ returns-in_err-parents-clause-parents c = IfOk-from_err _ _ c.from_residual.ensu
 pub returns-in_err-parents-clause-fit : goal.returns-in_err-parents-clause-fit
 returns-in_err-parents-clause-fit c = IfOk-from_err _ _ c.from_residual.ensures.0
 
-pub returns-in_err-potentials-clause-rows : goal.returns-in_err-potentials-clause-rows
-returns-in_err-potentials-clause-rows c = out_of_memory (potentials_steps c.args.text.now c.args.names.now c.args.heads.now c.args.syntax.now) _ c.from_residual-in_err-potentials.ensures
-
 pub returns-in_err-potentials-clause-potentials : goal.returns-in_err-potentials-clause-potentials
 returns-in_err-potentials-clause-potentials c = IfOk-from_err _ _ c.from_residual-in_err-potentials.ensures.0
 
@@ -140,26 +62,11 @@ returns-in_err-potentials-clause-parents c = IfOk-from_err _ _ c.from_residual-i
 pub returns-in_err-potentials-clause-fit : goal.returns-in_err-potentials-clause-fit
 returns-in_err-potentials-clause-fit c = IfOk-from_err _ _ c.from_residual-in_err-potentials.ensures.0
 
-pub bounds-block-items-block-index : goal.bounds-block-items-block-index
-bounds-block-items-block-index c = c.loop-block-test.true
+pub returns-in_err-enter_potentials-clause-potentials : goal.returns-in_err-enter_potentials-clause-potentials
+returns-in_err-enter_potentials-clause-potentials c = IfOk-from_err _ _ c.from_residual-in_err-enter_potentials.ensures.0
 
-pub read_potential-requires-clause-heads : goal.read_potential-requires-clause-heads
-read_potential-requires-clause-heads c = c.requires.heads
+pub returns-in_err-enter_potentials-clause-parents : goal.returns-in_err-enter_potentials-clause-parents
+returns-in_err-enter_potentials-clause-parents c = IfOk-from_err _ _ c.from_residual-in_err-enter_potentials.ensures.0
 
-pub returns-in_err-node-clause-potentials : goal.returns-in_err-node-clause-potentials
-returns-in_err-node-clause-potentials c = IfOk-from_err _ _ c.from_residual-in_err-node.ensures.0
-
-pub returns-in_err-node-clause-parents : goal.returns-in_err-node-clause-parents
-returns-in_err-node-clause-parents c = IfOk-from_err _ _ c.from_residual-in_err-node.ensures.0
-
-pub returns-in_err-node-clause-fit : goal.returns-in_err-node-clause-fit
-returns-in_err-node-clause-fit c = IfOk-from_err _ _ c.from_residual-in_err-node.ensures.0
-
-pub loop-block-smaller : goal.loop-block-smaller
-loop-block-smaller c = falls _ _ c.loop-block-test.true
-
-pub returns-clause-rows : goal.returns-clause-rows
-returns-clause-rows c =
-    let blocks : c.deref-block-items.result.now ≡ c.args.syntax.now = c.deref-block-items.ensures.value ∙ c.syntax.view_is in
-    let end : length c.args.syntax.now ≤ c.loop-block.block-index = subst (λ (bs : List BlockTree). length bs ≤ c.loop-block.block-index) blocks c.loop-block-test.false in
-    after_end (behind_rows c.args.text.now c.args.names.now c.args.heads.now) (λ b. is_potential b.kind) c.args.syntax.now (potentials_steps c.args.text.now c.args.names.now c.args.heads.now c.args.syntax.now) c.loop-block.block-index end c.loop-block.invariant.lead
+pub returns-in_err-enter_potentials-clause-fit : goal.returns-in_err-enter_potentials-clause-fit
+returns-in_err-enter_potentials-clause-fit c = IfOk-from_err _ _ c.from_residual-in_err-enter_potentials.ensures.0

@@ -30,7 +30,7 @@ pub returns-then-not-all_fit : goal.returns-then-not-all_fit
 returns-then-not-all_fit c = (
   (λ t. absurd (false≢true t)),
   λ all. sym c.if-not-all_fit.true
-  ∙ c.all_fit.ensures.1 (subst (All (Fits c.args.scale)) (sym c.values.ensures) (values_fit c.args.scale c.draft-item.result (subst (FitsDraft c.args.scale) (sym c.draft-item.is) (all c.loop-draft.draft-index c.draft-item.result c.loop-draft-test.true)))),
+      ∙ c.all_fit.ensures.1 (subst (All (Fits c.args.scale)) (sym c.values.ensures) (values_fit c.args.scale c.draft-item.result (subst (FitsDraft c.args.scale) (sym c.draft-item.is) (all c.loop-draft.draft-index c.draft-item.result c.loop-draft-test.true)))),
 )
 
 pub loop-draft-preserved : goal.loop-draft-preserved

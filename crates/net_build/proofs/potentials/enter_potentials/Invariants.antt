@@ -2,7 +2,7 @@ use Rattle.std.proofs.Common.{◌≡◌, All, take, filter}
 use Rattle.net_build.specs.Linking.{borrowed_trees, behind_rows, potentials_steps, potentials_among, parents_in, AreParents}
 use Rattle.net_build.specs.Lists.{numbers_of_lists}
 use Rattle.first_fault.proofs.Leading.{Leads, AfterPass}
-use Rattle.net_build.proofs.potentials.read_potentials.Given as goal
+use Rattle.net_build.proofs.potentials.enter_potentials.Given as goal
 use Rattle.net_parser.specs.Grammar.{is_potential}
 
 -- the potentials among the blocks so far and their parents, and what the blocks still to come find, the whole pass finds
