@@ -1,5 +1,6 @@
-use Rattle.std.proofs.Common.{◌<◌, length, subst, ◌∙◌}
-use Rattle.std.proofs.lemmas.List.{length-map}
+use Rattle.std.proofs.lemmas.Result.{IfOk-from_err}
+use Rattle.std.proofs.Common.{ap, sym, Bool, true, List, ◌<◌, length, subst, ◌∙◌}
+use Rattle.std.proofs.lemmas.List.{length-map, length-replicate}
 use Rattle.diagram_graph.specs.Needs.{IsMarkedIn}
 use Rattle.diagram_graph.specs.Cycles.{lists_in}
 use Rattle.diagram_graph.specs.Placed.{IsPlacingOf, IsOrderOf, IsCycleOf}
@@ -36,3 +37,20 @@ pub returns-clause-ring : goal.returns-clause-ring
 returns-clause-ring c =
     let cycle : IsCycleOf (lists_in c.args.parents.now) c.deref.result.now c.in-Cycle.cycle.items = subst (λ p. IsPlacingOf (lists_in c.args.parents.now) c.deref.result.now p) c.in-Cycle.is c.in_ok-place_all.ensures in
     cycle.ring
+
+pub returns-in_err-nodes-clause-cycle : goal.returns-in_err-nodes-clause-cycle
+returns-in_err-nodes-clause-cycle c = IfOk-from_err _ _ c.from_residual.ensures.0
+
+pub returns-in_err-nodes-clause-ring : goal.returns-in_err-nodes-clause-ring
+returns-in_err-nodes-clause-ring c = IfOk-from_err _ _ c.from_residual.ensures.0
+
+pub returns-in_err-place_all-clause-cycle : goal.returns-in_err-place_all-clause-cycle
+returns-in_err-place_all-clause-cycle c = IfOk-from_err _ _ c.from_residual-in_err-place_all.ensures.0
+
+pub returns-in_err-place_all-clause-ring : goal.returns-in_err-place_all-clause-ring
+returns-in_err-place_all-clause-ring c = IfOk-from_err _ _ c.from_residual-in_err-place_all.ensures.0
+
+pub place_all-requires-clause-items_len : goal.place_all-requires-clause-items_len
+place_all-requires-clause-items_len c =
+    let marks = c.deref.ensures.value ∙ c.in_ok-nodes.ensures.items_if_clones_equal (λ y e. e) in
+    ap (λ (xs : List Bool). length xs) marks ∙ length-replicate (length c.args.parents.now) true ∙ sym (length-map c.args.parents.now (λ row. row.items))

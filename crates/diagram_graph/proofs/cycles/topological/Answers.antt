@@ -1,4 +1,6 @@
-use Rattle.std.proofs.Common.{◌<◌, length, map, sym, subst, ◌∙◌}
+use Rattle.std.proofs.lemmas.List.{length-map, length-replicate}
+use Rattle.std.proofs.lemmas.Result.{IfOk-from_err}
+use Rattle.std.proofs.Common.{ap, Bool, true, List, ◌<◌, length, map, sym, subst, ◌∙◌}
 use Rattle.maid_model.specs.Graph.{Arc}
 use Rattle.maid_model.specs.Views.{NodeView}
 use Rattle.diagram_graph.specs.Needs.{IsMarkedIn, NeedsItem}
@@ -27,3 +29,14 @@ returns c =
     order_same (IsMarkedIn marks) (λ v. v < length nodes) (NeedsItem lists) (λ v p. Arc nodes p v)
     (λ v. rw (← c.count.ensures.count) (all_in _ marks (c.deref.ensures.value ∙ c.in_ok-nodes.ensures.items_if_clones_equal (λ y e. e)) v))
     (needs_parents nodes) c.in-Order.order.items order
+
+pub returns-in_err-nodes : goal.returns-in_err-nodes
+returns-in_err-nodes c = IfOk-from_err _ _ c.from_residual.ensures.0
+
+pub returns-in_err-order : goal.returns-in_err-order
+returns-in_err-order c = IfOk-from_err _ _ c.from_residual-in_err-order.ensures.0
+
+pub place_all-requires-clause-items_len : goal.place_all-requires-clause-items_len
+place_all-requires-clause-items_len c =
+    let marks = c.deref.ensures.value ∙ c.in_ok-nodes.ensures.items_if_clones_equal (λ y e. e) in
+    ap (λ (xs : List Bool). length xs) marks ∙ length-replicate c.count.result true ∙ c.count.ensures.count ∙ sym (length-map c.args.diagram.now.nodes (λ (node : NodeView). node.parents))

@@ -84,3 +84,6 @@ returns-in_err-nodes-clause-made c = IfOk-from_err _ _ c.from_residual.ensures.0
 
 pub decided_nodes-requires : goal.decided_nodes-requires
 decided_nodes-requires c = chance_within c.args.diagram.now.nodes c.args.node c.requires.chance
+
+pub returns-in_err-with_nodes-clause-made : goal.returns-in_err-with_nodes-clause-made
+returns-in_err-with_nodes-clause-made c = IfOk-from_err _ _ c.from_residual-in_err-with_nodes.ensures.0

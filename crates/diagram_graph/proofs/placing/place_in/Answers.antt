@@ -19,3 +19,30 @@ returns-in_ok-find_round-in-Some g c =
       stuck = λ v can. c.in_ok-order.ensures.stuck v ((ready_can lists items _ order same v).1 can);
       round = round_same _ _ lists (free_remains items _ order same) _ c.in_ok-find_round-in-Some.ensures;
     })
+
+pub place-requires-clause-items_len : goal.place-requires-clause-items_len
+place-requires-clause-items_len g c = c.requires.items_len
+
+pub place-requires-clause-placed_len : goal.place-requires-clause-placed_len
+place-requires-clause-placed_len g c = c.requires.placed_len
+
+pub place-requires-clause-none : goal.place-requires-clause-none
+place-requires-clause-none g c = c.requires.none
+
+pub first_free-requires : goal.first_free-requires
+first_free-requires g c = omega (arith, c.place.auto.placed, c.requires.placed_len, c.requires.items_len)
+
+pub find_round-requires-clause-items_len : goal.find_round-requires-clause-items_len
+find_round-requires-clause-items_len g c = c.requires.items_len
+
+pub find_round-requires-clause-placed_len : goal.find_round-requires-clause-placed_len
+find_round-requires-clause-placed_len g c = omega (arith, c.place.auto.placed, c.requires.placed_len)
+
+pub find_round-requires-clause-needs : goal.find_round-requires-clause-needs
+find_round-requires-clause-needs g c = c.requires.needs
+
+pub find_round-requires-clause-start : goal.find_round-requires-clause-start
+find_round-requires-clause-start g c = c.in-Some.ensures
+
+pub find_round-requires-clause-stuck : goal.find_round-requires-clause-stuck
+find_round-requires-clause-stuck g c = c.in_ok-order.ensures.stuck
