@@ -25,20 +25,24 @@ begins word kind is = by_word (bytes_eq word (codes "node")) (bytes_eq word (cod
   by_word false false true n_is d_is u_is e = subst (Begins word) (same_Some Utility kind e) (record { head = λ first title a b h. subst (λ w. NodeHead w title a b) (word_is _ _ u_is) h; plain = refl })
   by_word false false false n_is d_is u_is e = cc
 
+-- it begins no potential
 pub node_plain : (word : List ℕ) (kind : BlockKind) → node_kind word ≡ Some kind → is_potential kind ≡ false
 node_plain word kind is = (begins word kind is).plain
 
+-- such a word, perhaps behind discrete, and a name are a head
 pub node_head : (first : Bool) (kind read : BlockKind) (names : List Token) (word : List ℕ) (a m b c : List Lexeme) → node_kind word ≡ Some kind → Either Empty (Word (codes "discrete")) a m → Word word m b → (read ≡ kind) × NodeNames names b c → Head first read names a c
 node_head first kind read [] word a m b c is discrete at n = absurd n.1
 node_head first kind read (title ∷ []) word a m b c is discrete at n =
     subst (λ k. Head first k (title ∷ []) a c) (sym n.0) ((begins word kind is).head first title a c (m, discrete, (b, at, n.1)))
 node_head first kind read (title ∷ other ∷ others) word a m b c is discrete at n = absurd n.1
 
+-- and so are potential and its names
 pub potential_head : (first : Bool) (read : BlockKind) (names : List Token) (a b c : List Lexeme) → Word (codes "potential") a b → (read ≡ Potential) × PotentialNames names b c → Head first read names a c
 potential_head first read [] a b c at n = absurd n.1
 potential_head first read (title ∷ given) a b c at n =
     subst (λ k. Head first k (title ∷ given) a c) (sym n.0) (b, at, n.1)
 
+-- a name and those given, as they are collected
 pub potential_names : (names before given : List Token) (title : Token) (a b m c : List Lexeme) → before ≡ title ∷ [] → names ≡ before ++ given → Mark ParenOpen a b → Name title b m → (Given given ▹ Mark ParenClose) m c → PotentialNames names a c
 potential_names names before given title a b m c first all opens named rest =
     subst (λ ts. PotentialNames ts a c) (sym (all ∙ ap (λ ts. ts ++ given) first)) (b, opens, (m, named, rest))

@@ -63,7 +63,7 @@ impl<'a> Reader<'_, 'a> {
         Ok(names)
     }
 
-    /// Reads the names of a potential in their parentheses, which end its head.
+    /// Reads what stands behind `potential` in a head: names in their parentheses.
     fn potential_head(&mut self, alloc: Global) -> Result<(BlockKind, Vec<Token>), Stop>
         ensures rule { IfOk result (λ head. IsPotentialHead head.0 head.1.items self.old self.new) }
         ensures follows { Follows (mark ParenOpen ∷ name ∷ given ∷ []) result self.old self.new }
@@ -75,7 +75,7 @@ impl<'a> Reader<'_, 'a> {
         Ok((BlockKind::Potential, names))
     }
 
-    /// Reads the name of a node block of that kind, which ends its head.
+    /// Reads what stands behind the word of such a node in a head: its name.
     fn node_head(&mut self, alloc: Global, kind: BlockKind) -> Result<(BlockKind, Vec<Token>), Stop>
         ensures rule { IfOk result (λ head. IsNodeHead kind head.0 head.1.items self.old self.new) }
         ensures follows { Follows (name ∷ []) result self.old self.new }

@@ -32,7 +32,7 @@ impl BlockKind {
 
 /// An attribute's value: a string, a numeral or a word, or a list of values in parentheses. A list in which no list
 /// stands is lent from the tokens, so that a table takes no memory in the tree.
-#[derive(Debug, Drop)]
+#[derive(Drop)]
 pub enum Value<'a> {
     Leaf(Token),
     Leaves(&'a [Token]),
@@ -40,7 +40,7 @@ pub enum Value<'a> {
 }
 
 /// An attribute of a block, with the token of its name.
-#[derive(Debug, Drop)]
+#[derive(Drop)]
 pub struct Attribute<'a> {
     pub name: Token,
     pub value: Value<'a>,
@@ -60,7 +60,7 @@ impl<'a> Model for Attribute<'a> {
 }
 
 /// A block, with the tokens of its names.
-#[derive(Debug, Drop)]
+#[derive(Drop)]
 pub struct Block<'a> {
     pub kind: BlockKind,
     pub names: Vec<Token>,
@@ -80,7 +80,7 @@ impl<'a> Model for Block<'a> {
 }
 
 /// The tree of a text: its blocks in order. It borrows from the text's tokens.
-#[derive(Debug, Drop)]
+#[derive(Drop)]
 pub struct Syntax<'a> {
     pub blocks: Vec<Block<'a>>,
 }
