@@ -78,7 +78,7 @@ fn one_name(alloc: Global, text: &[u8], agent: &Attribute<'_>) -> Result<Vec<Vec
     Ok(names)
 }
 
-// The fault of an attribute there whose strings are refused as labels.
+// The fault of an attribute there whose strings are refused as labels, or that memory ran out.
 fn bad_agent(refused: BuildFault, at: u32) -> BuildFault
     ensures { result ≡ as_bad_agent at refused }
 {
@@ -144,7 +144,7 @@ fn see_agent(
     Ok(())
 }
 
-// None of the names stands a second time, and all of them are seen. They are those of these strings.
+// None of the names stands a second time, where none is seen yet; they are those of these strings.
 fn see_agents(
     alloc: Global,
     text: &[u8],
