@@ -198,7 +198,11 @@ module _ (nodes : List NodeView) (plan : PlanView) where
 
 module _ (nodes : List NodeView) (plan : PlanView) (steps : List ℕ) (order : IsOrderOfPlan nodes plan steps) (set : NodeSet)
     (set_is : (v : ℕ) → IsIn set v ↔ ((Contains plan.keep v ⊎ Contains steps v) × (plan.without ≡ Some v → ⊥))) where
-  -- a node of the set has its own table
+  -- a number of the set is a node
+  pub ruled_known : IsPlan nodes plan → (v : ℕ) → holds set v ≡ true → v < length nodes
+  ruled_known is v e = elim ((set_is v).0 e).0 as (λ _. v < length nodes) [ inl k ↦ kept_known nodes plan is v k | inr s ↦ step_known nodes plan steps order v s ]
+
+  -- and has its own table
   pub ruled_member : (v : ℕ) → v < length nodes → holds set v ≡ true → Among v (ruled_nodes nodes plan)
   ruled_member v l e = subst (Among v) (ruled_are nodes plan steps order set set_is) (filter_has (holds set) v (numbers_of nodes) (range_has 0 (length nodes) v (omega arith) (omega arith)) e)
 

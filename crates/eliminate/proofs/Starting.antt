@@ -1,5 +1,5 @@
 -- The first tables of a plan, one after another.
-use Rattle.std.proofs.Common.{◌≡◌, ◌∙◌, ℕ, suc, ◌+◌, ◌-◌, ◌<◌, ◌≤◌, Bool, true, false, cond, map, filter, List, [], ◌∷◌, ◌++◌, length, take, refl, ap, subst, arith, append_assoc, Option, Some, option_to_list}
+use Rattle.std.proofs.Common.{◌≡◌, ◌∙◌, ℕ, zero, suc, ◌+◌, ◌-◌, ◌<◌, ◌≤◌, Bool, true, false, cond, map, filter, List, [], ◌∷◌, ◌++◌, length, take, refl, ap, subst, arith, append_assoc, Option, Some, option_to_list}
 use Rattle.std.specs.List.{range_with_len, sum_by}
 use Rattle.std.proofs.lemmas.List.{length-append, length-take-le}
 use Rattle.std.proofs.lemmas.List.Sums.{sum_by-cons}
@@ -57,27 +57,41 @@ from_held h v n l e =
     let one : n - v ≡ suc (n - (v + 1)) = omega arith in
     ap (λ k. filter h (range_with_len v k)) one ∙ ap (λ b. cond b (v ∷ filter h (range_with_len (v + 1) (n - (v + 1)))) (filter h (range_with_len (v + 1) (n - (v + 1))))) e
 
-pub from_other : (h : ℕ → Bool) (v n : ℕ) → v < n → h v ≡ false → from_node h v n ≡ from_node h (v + 1) n
+from_other : (h : ℕ → Bool) (v n : ℕ) → v < n → h v ≡ false → from_node h v n ≡ from_node h (v + 1) n
 from_other h v n l e =
     let one : n - v ≡ suc (n - (v + 1)) = omega arith in
     ap (λ k. filter h (range_with_len v k)) one ∙ ap (λ b. cond b (v ∷ filter h (range_with_len (v + 1) (n - (v + 1)))) (filter h (range_with_len (v + 1) (n - (v + 1))))) e
 
-pub from_end : (h : ℕ → Bool) (v n : ℕ) → n ≤ v → from_node h v n ≡ []
-from_end h v n l = let none : n - v ≡ 0 = omega arith in ap (λ k. filter h (range_with_len v k)) none
+-- where the set has none up to the next one
+from_on : (h : ℕ → Bool) (next n k : ℕ) → next + k ≤ n → ((w : ℕ) → next ≤ w → w < next + k → h w ≡ false) → from_node h next n ≡ from_node h (next + k) n
+from_on h next n zero l none = ap (λ v. from_node h v n) (let e : next ≡ next + 0 = omega arith in e)
+from_on h next n (suc k) l none =
+    from_on h next n k (omega (arith, l)) (λ w a b. none w a (omega (arith, b)))
+    ∙ from_other h (next + k) n (omega (arith, l)) (none (next + k) (omega arith) (omega arith))
+    ∙ ap (λ v. from_node h v n) (let e : next + k + 1 ≡ next + suc k = omega arith in e)
+
+from_first : (h : ℕ → Bool) (next v n : ℕ) → next ≤ v → v < n → ((w : ℕ) → next ≤ w → w < v → h w ≡ false) → h v ≡ true → from_node h next n ≡ v ∷ from_node h (v + 1) n
+from_first h next v n a l none e =
+    let there : next + (v - next) ≡ v = omega (arith, a) in
+    from_on h next n (v - next) (omega (arith, a, l)) (λ w c d. none w c (omega (arith, a, d)))
+    ∙ ap (λ x. from_node h x n) there
+    ∙ from_held h v n l e
+
+from_end : (h : ℕ → Bool) (v n : ℕ) → v ≤ n → ((w : ℕ) → v ≤ w → h w ≡ false) → from_node h v n ≡ []
+from_end h v n l none =
+    from_on h v n (n - v) (omega (arith, l)) (λ w a b. none w a)
+    ∙ ap (λ x. from_node h x n) (let e : v + (n - v) ≡ n = omega (arith, l) in e)
+    ∙ ap (λ k. filter h (range_with_len n k)) (let e : n - n ≡ 0 = omega arith in e)
 
 -- ---- the nodes to come at the start, in the middle and at the end
 module _ {C : Type 0} (c : Cells C) (nodes : List NodeView) (p : List RuleView) (h : ℕ → Bool) (end all : List ℕ) (n : ℕ) where
-  pub held_next : (before now : WorkspaceView C) (slots : List Slot) (v : ℕ) → v < n → h v ≡ true
-      → Lists c nodes p before now slots (from_node h v n ++ end) all → Lists c nodes p before now slots (v ∷ (from_node h (v + 1) n ++ end)) all
-  held_next before now slots v l e lists = subst (λ rest. Lists c nodes p before now slots (rest ++ end) all) (from_held h v n l e) lists
+  pub first_next : (before now : WorkspaceView C) (slots : List Slot) (next v : ℕ) → next ≤ v → v < n → ((w : ℕ) → next ≤ w → w < v → h w ≡ false) → h v ≡ true
+      → Lists c nodes p before now slots (from_node h next n ++ end) all → Lists c nodes p before now slots (v ∷ (from_node h (v + 1) n ++ end)) all
+  first_next before now slots next v a l none e lists = subst (λ rest. Lists c nodes p before now slots (rest ++ end) all) (from_first h next v n a l none e) lists
 
-  pub other_next : (before now : WorkspaceView C) (slots : List Slot) (v : ℕ) → v < n → h v ≡ false
-      → Lists c nodes p before now slots (from_node h v n ++ end) all → Lists c nodes p before now slots (from_node h (v + 1) n ++ end) all
-  other_next before now slots v l e lists = subst (λ rest. Lists c nodes p before now slots (rest ++ end) all) (from_other h v n l e) lists
-
-  pub last_next : (before now : WorkspaceView C) (slots : List Slot) (v : ℕ) → n ≤ v
+  pub last_next : (before now : WorkspaceView C) (slots : List Slot) (v : ℕ) → v ≤ n → ((w : ℕ) → v ≤ w → h w ≡ false)
       → Lists c nodes p before now slots (from_node h v n ++ end) all → Lists c nodes p before now slots end all
-  last_next before now slots v l lists = subst (λ rest. Lists c nodes p before now slots (rest ++ end) all) (from_end h v n l) lists
+  last_next before now slots v l none lists = subst (λ rest. Lists c nodes p before now slots (rest ++ end) all) (from_end h v n l none) lists
 
 -- the utility stands last
 pub utility_next : {C : Type 0} (c : Cells C) (nodes : List NodeView) (p : List RuleView) (utility : Option ℕ) (u : ℕ) (all : List ℕ) (before now : WorkspaceView C) (slots : List Slot)

@@ -6,7 +6,6 @@ ghost use Rattle.node_sets.specs.Sets.{holds};
 ghost use Rattle.size_precheck.specs.Counts.{counted_cells};
 ghost use Rattle.eliminate.specs.Limits.{Spends};
 
-use factor_core::StateCounts;
 use maid_model::{COUNT_END, Diagram};
 use node_sets::NodeSet;
 
@@ -22,11 +21,10 @@ pub struct Limits {
 const END: usize = COUNT_END as usize;
 
 /// How many cells a table over the scope has. The count stops at its end, and goes over no node that the scope lacks.
-pub fn count_cells(diagram: &Diagram, counts: &StateCounts, scope: &NodeSet) -> usize
-    requires { counts.now ≡ counts_of diagram.now.nodes }
+pub fn count_cells(diagram: &Diagram, scope: &NodeSet) -> usize
     ensures { result ≡ counted_cells diagram.now.nodes (holds scope.now) }
 {
-    let counts = counts.as_slice();
+    let counts = diagram.state_counts();
     let mut cells: usize = 1;
     let mut next = 0;
     'nodes: while let Some(v) = scope.first_from(next) {

@@ -12,16 +12,15 @@ ghost use Rattle.eliminate.specs.Results.{total_of};
 ghost use Rattle.eliminate.specs.Steps.{HasOwnTable, HasSlotsForFirsts, HasSpareForFirsts, HasSpareForTable, ListsFirst, NumbersFitIn, PutsFirst};
 
 use cell_rings::Cell;
-use factor_core::{Slot, StateCounts, Workspace};
+use factor_core::{Slot, Workspace};
 use maid_model::{Diagram, Profile};
 use node_sets::NodeSet;
 use size_precheck::Plan;
 
-/// A diagram, the counts of states of its nodes, and the profile that it is played with.
+/// A diagram, and the profile that it is played with.
 #[derive(Drop)]
 pub struct Play<'a> {
     pub diagram: &'a Diagram,
-    pub counts: &'a StateCounts,
     pub profile: &'a Profile,
 }
 
@@ -49,7 +48,6 @@ pub fn put_table<C: Cell>(
     count: usize,
     node: usize,
 ) -> usize
-    requires counts { play.now.counts.now ≡ counts_of play.now.diagram.now.nodes }
     requires profile { IsProfile play.now.diagram.now.nodes play.now.profile.now }
     requires count { count < length live.old }
     requires node { node < length play.now.diagram.now.nodes }
@@ -58,7 +56,7 @@ pub fn put_table<C: Cell>(
     ensures count { result ≡ count + 1 }
     ensures puts { PutsFirst C.Cell play.now work.old work.new count live.old result live.new node }
 {
-    live[count] = work.table(play.diagram, play.counts, play.profile, node);
+    live[count] = work.table(play.diagram, play.profile, node);
     count + 1
 }
 
@@ -72,7 +70,6 @@ pub fn first_tables<C: Cell>(
 ) -> usize
     requires asked { CanBePlanned play.now.diagram.now.nodes plan.now.plan }
     requires order { IsOrderOfPlan play.now.diagram.now.nodes plan.now.plan plan.now.steps }
-    requires counts { play.now.counts.now ≡ counts_of play.now.diagram.now.nodes }
     requires profile { IsProfile play.now.diagram.now.nodes play.now.profile.now }
     requires fits { 2 * total_of play.now plan.now.plan ≤ C.ring.most }
     requires room { HasSpareForFirsts C.Cell play.now plan.now.plan work.old }
@@ -81,13 +78,13 @@ pub fn first_tables<C: Cell>(
     ensures few { result ≤ length live.old }
     ensures lists { ListsFirst C.Cell play.now plan.now work.old work.new (take result live.new) }
 {
-    let nodes = play.diagram.count();
+    let _count = play.diagram.count();
     let ruled = ruled_nodes(plan);
     let mut count = 0;
-    for v in 0..nodes {
-        if ruled.holds(v) {
-            count = put_table(work, play, live, count, v);
-        }
+    let mut next = 0;
+    'tables: while let Some(v) = ruled.first_from(next) {
+        count = put_table(work, play, live, count, v);
+        next = v + 1;
     }
     match plan.utility() {
         Some(u) => put_table(work, play, live, count, u),

@@ -15,7 +15,7 @@ use crate::firsts::{Play, first_tables};
 use crate::lists::{before, blank_slot};
 use crate::places::{Places, all_live, gather, gather_live, no_places, places_of, put_slot};
 use cell_rings::Cell;
-use factor_core::{Slot, StateCounts, Workspace};
+use factor_core::{Slot, Workspace};
 use maid_model::{Diagram, Profile};
 use node_sets::{MOST_NODES, NodeSet};
 use size_precheck::Plan;
@@ -25,6 +25,9 @@ pub const FEW: usize = 64;
 
 /// How many slots the lists of short runs have.
 pub const SHORT: usize = 42;
+
+/// And those of longer ones that are no longer than most.
+const MEDIUM: usize = 96;
 
 /// Ends all tables of the workspace: no cell is left, and there is as much room as after `reserve`. It takes no memory.
 pub fn release<C: Cell>(work: &mut Workspace<C>)
@@ -43,8 +46,6 @@ pub fn eliminate<C: Cell>(
     places: Places,
     node: usize,
 ) -> Places
-    requires diagram { IsDiagram play.now.diagram.now }
-    requires counts { play.now.counts.now ≡ counts_of play.now.diagram.now.nodes }
     requires board { IsBoard at.old slots.old places.live places.made }
     requires made { places.made ≤ length slots.old }
     requires slots { length slots.old ≤ MOST_NODES }
@@ -57,7 +58,7 @@ pub fn eliminate<C: Cell>(
 {
     let held = places_of(at, &places, node);
     let count = gather(before(slots, places.made), &held, joined);
-    let slot = work.join_out(play.diagram, play.counts, before(joined, count), node);
+    let slot = work.join_out(play.diagram, before(joined, count), node);
     let left = Places {
         live: places.live.difference(&held),
         made: places.made,
@@ -88,19 +89,14 @@ fn run_with<C: Cell>(
     requires fits { 2 * plan_total diagram.now.nodes profile.now plan.now.plan ≤ C.ring.most }
     ensures { SumsPlanIn C.Cell diagram.now profile.now plan.now work.old work.new result }
 {
-    let counts = StateCounts::of(diagram);
-    let play = Play {
-        diagram,
-        counts: &counts,
-        profile,
-    };
+    let play = Play { diagram, profile };
     let count = first_tables(work, plan, &play, slots);
     let mut places = all_live(slots, at, count);
     for node in plan.steps() {
         places = eliminate(work, &play, slots, at, joined, places, *node);
     }
     let count = gather_live(slots, &places, joined);
-    work.product(diagram, &counts, before(joined, count))
+    work.product(diagram, before(joined, count))
 }
 
 /// The run of a plan over up to `NODES` nodes, of up to `SLOTS` first tables.
@@ -136,13 +132,13 @@ fn run_sized<C: Cell, const NODES: usize, const SLOTS: usize>(
     )
 }
 
-/// Whether a list of `SHORT` slots has a place for each slot that the run of the plan makes: one at most for each node
+/// Whether a list of so many slots has a place for each slot that the run of the plan makes: one at most for each node
 /// that the plan keeps or eliminates, one for its utility, and one for each step.
-fn is_short(plan: &Plan) -> bool
-    ensures { IsTrue result ↔ length plan.now.plan.keep + 2 * length plan.now.steps < SHORT }
+fn has_places(plan: &Plan, slots: usize) -> bool
+    ensures { IsTrue result ↔ length plan.now.plan.keep + 2 * length plan.now.steps < slots }
 {
     let steps = plan.steps().len();
-    steps < SHORT / 2 && plan.keep().len() < SHORT - 2 * steps
+    plan.keep().len() < slots.saturating_sub(steps).saturating_sub(steps)
 }
 
 /// Runs the plan: makes its first tables, eliminates its nodes in their order, and multiplies the tables that are left
@@ -165,15 +161,15 @@ pub fn run_plan<C: Cell>(
     ensures { SumsPlanIn C.Cell diagram.now profile.now plan.now work.old work.new result }
 {
     let has_many = diagram.count() > FEW;
-    if is_short(plan) {
+    if has_places(plan, SHORT) {
         if has_many {
             run_sized::<C, MOST_NODES, SHORT>(work, plan, diagram, profile)
         } else {
             run_sized::<C, FEW, SHORT>(work, plan, diagram, profile)
         }
-    } else if has_many {
-        run_sized::<C, MOST_NODES, MOST_NODES>(work, plan, diagram, profile)
+    } else if has_places(plan, MEDIUM) {
+        run_sized::<C, MOST_NODES, MEDIUM>(work, plan, diagram, profile)
     } else {
-        run_sized::<C, FEW, FEW>(work, plan, diagram, profile)
+        run_sized::<C, MOST_NODES, MOST_NODES>(work, plan, diagram, profile)
     }
 }

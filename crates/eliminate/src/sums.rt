@@ -20,7 +20,7 @@ use crate::lists::{before, blank_slot};
 use crate::places::{Places, all_live, gather, gather_live, no_places, places_of};
 use crate::runs::{FEW, SHORT, eliminate};
 use cell_rings::Cell;
-use factor_core::{Slot, StateCounts, Workspace, united_scope};
+use factor_core::{Slot, Workspace, united_scope};
 use maid_model::{Diagram, Kind, Profile};
 use node_sets::{MOST_NODES, NodeSet};
 
@@ -48,7 +48,6 @@ fn list_tables<C: Cell>(
     live: &mut [Slot],
     limits: Limits,
 ) -> Option<Limits>
-    requires counts { play.now.counts.now ≡ counts_of play.now.diagram.now.nodes }
     requires profile { IsProfile play.now.diagram.now.nodes play.now.profile.now }
     requires known { All (λ v. v < length play.now.diagram.now.nodes) nodes.now }
     requires numbers { All (NumbersFitIn C.ring.most play.now) nodes.now }
@@ -61,7 +60,7 @@ fn list_tables<C: Cell>(
     let mut left = limits;
     let mut count = 0;
     for node in nodes {
-        let cells = count_cells(play.diagram, play.counts, &first_scope(play.diagram, *node));
+        let cells = count_cells(play.diagram, &first_scope(play.diagram, *node));
         left = spend(left, cells, 0, 0)?;
         count = put_table(work, play, live, count, *node);
     }
@@ -71,7 +70,6 @@ fn list_tables<C: Cell>(
 /// What is left of the limits after a step, which makes a table over the nodes of the live slots that hold the node.
 fn spend_on_step(
     diagram: &Diagram,
-    counts: &StateCounts,
     slots: &[Slot],
     at: &[NodeSet],
     joined: &mut [Slot],
@@ -79,7 +77,6 @@ fn spend_on_step(
     node: usize,
     left: Limits,
 ) -> Option<Limits>
-    requires counts { counts.now ≡ counts_of diagram.now.nodes }
     requires board { IsBoard at.now slots.now places.now.live places.now.made }
     requires made { places.now.made ≤ length slots.now }
     requires slots { length slots.now ≤ MOST_NODES }
@@ -94,23 +91,17 @@ fn spend_on_step(
     rest.remove(node);
     spend(
         left,
-        count_cells(diagram, counts, &rest),
-        count_cells(diagram, counts, &scope),
+        count_cells(diagram, &rest),
+        count_cells(diagram, &scope),
         count,
     )
 }
 
 /// What is left of the limits after the product of the slots.
-fn spend_on_product(
-    diagram: &Diagram,
-    counts: &StateCounts,
-    slots: &[Slot],
-    left: Limits,
-) -> Option<Limits>
-    requires { counts.now ≡ counts_of diagram.now.nodes }
+fn spend_on_product(diagram: &Diagram, slots: &[Slot], left: Limits) -> Option<Limits>
     ensures { SpendsProduct diagram.now.nodes (scopes_at slots.now) left result }
 {
-    let cells = count_cells(diagram, counts, &united_scope(slots));
+    let cells = count_cells(diagram, &united_scope(slots));
     spend(left, cells, cells, slots.len())
 }
 
@@ -118,14 +109,11 @@ fn spend_on_product(
 fn multiply_live<C: Cell>(
     work: &mut Workspace<C>,
     diagram: &Diagram,
-    counts: &StateCounts,
     slots: &[Slot],
     joined: &mut [Slot],
     places: &Places,
     left: Limits,
 ) -> Option<Slot>
-    requires diagram { IsDiagram diagram.now }
-    requires counts { counts.now ≡ counts_of diagram.now.nodes }
     requires within { (k : ℕ) → IsIn places.now.live k → k < places.now.made }
     requires made { places.now.made ≤ length slots.now }
     requires slots { length slots.now ≤ MOST_NODES }
@@ -140,8 +128,8 @@ fn multiply_live<C: Cell>(
 {
     let count = gather_live(slots, places, joined);
     let last = before(joined, count);
-    spend_on_product(diagram, counts, last, left)?;
-    Some(work.product(diagram, counts, last))
+    spend_on_product(diagram, last, left)?;
+    Some(work.product(diagram, last))
 }
 
 /// The sum with these lists to write its places and slots into.
@@ -173,19 +161,15 @@ fn sum_with<C: Cell>(
     ensures none { NoneIffTooMuch C.Cell diagram.now profile.now nodes.now steps.now limits result }
     ensures grows { Grows C.ring diagram.now.nodes work.old work.new }
 {
-    let counts = StateCounts::of(diagram);
-    let play = Play {
-        diagram,
-        counts: &counts,
-        profile,
-    };
+    let _count = diagram.count();
+    let play = Play { diagram, profile };
     let mut left = list_tables(work, &play, nodes, slots, limits)?;
     let mut places = all_live(slots, at, nodes.len());
     for node in steps {
-        left = spend_on_step(diagram, &counts, slots, at, joined, &places, *node, left)?;
+        left = spend_on_step(diagram, slots, at, joined, &places, *node, left)?;
         places = eliminate(work, &play, slots, at, joined, places, *node);
     }
-    multiply_live(work, diagram, &counts, slots, joined, &places, left)
+    multiply_live(work, diagram, slots, joined, &places, left)
 }
 
 /// The sum over up to `NODES` nodes, of up to `SLOTS` first tables.

@@ -17,12 +17,10 @@ mod short_walks;
 mod sizes;
 mod slots;
 mod sources;
-mod states;
 mod tables;
 mod walks;
 mod workspaces;
 mod writes;
 
 pub use slots::{Slot, Strip, united_scope};
-pub use states::StateCounts;
 pub use workspaces::Workspace;

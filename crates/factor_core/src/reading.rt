@@ -7,7 +7,6 @@ ghost use Rattle.factor_core.specs.Tables.{AreCounts, AreScopeStates, size_of, I
 
 use crate::orders::counted;
 use crate::slots::Slot;
-use crate::states::StateCounts;
 use cell_rings::Cell;
 use maid_model::Diagram;
 use node_sets::NodeSet;
@@ -58,6 +57,6 @@ pub fn read_cell<C: Cell>(
     requires states { AreStatesOf diagram.now.nodes slot.now states.now }
     ensures { IsCellAt C.ring diagram.now.nodes (take used all.now) slot.now states.now result }
 {
-    let counts = StateCounts::of(diagram);
-    all[slot.start + place_for(counts.as_slice(), &slot.scope, states)]
+    let counts = diagram.state_counts();
+    all[slot.start + place_for(counts, &slot.scope, states)]
 }

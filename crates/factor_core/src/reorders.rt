@@ -14,7 +14,6 @@ use crate::orders::list_nodes;
 use crate::setting::set_steps;
 use crate::sizes::{stride, table_size};
 use crate::slots::{Slot, Strip};
-use crate::states::StateCounts;
 use crate::walks::before;
 use cell_rings::Cell;
 use maid_model::{Diagram, MOST_NODES};
@@ -66,8 +65,7 @@ pub fn restrict_behind<C: Cell>(
     ensures len { used + result.len ≤ length all.new }
     ensures table { WritesState C.ring diagram.now node state slot.now all.old all.new used result }
 {
-    let counts = StateCounts::of(diagram);
-    let counts = counts.as_slice();
+    let counts = diagram.state_counts();
     let scope = without(&slot.scope, node);
     let len = table_size(counts, &scope);
     let mut order = [0; MOST_NODES + 1];
@@ -106,8 +104,7 @@ pub fn reorder_behind<C: Cell>(
     ensures same { result.len ≡ slot.now.len }
     ensures moves { MovesBehind C.ring diagram.now nodes.now slot.now all.old all.new used result }
 {
-    let counts = StateCounts::of(diagram);
-    let counts = counts.as_slice();
+    let counts = diagram.state_counts();
     let mut steps = [Step {
         states: 1,
         stride: 0,

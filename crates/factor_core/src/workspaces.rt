@@ -4,8 +4,7 @@ ghost use Rattle.std.specs.Prelude.{vec_capacity, vec_len, take, ◌⊎◌, ◌�
 ghost use Rattle.maid_model.specs.declared.limits.TheConstants.{MOST_PLAN_CELLS};
 ghost use Rattle.node_sets.specs.Sets.{IsIn};
 ghost use Rattle.maid_model.specs.Graph.{AllDifferent};
-ghost use Rattle.maid_model.specs.Diagrams.{IsDiagram};
-ghost use Rattle.maid_model.specs.Nodes.{counts_of, states_of};
+ghost use Rattle.maid_model.specs.Nodes.{states_of};
 ghost use Rattle.maid_model.specs.Profiles.{IsProfile};
 ghost use Rattle.factor_core.specs.Operations.{NumbersFit};
 ghost use Rattle.factor_core.specs.Slots.{part, IsLiveSlot, Appends, AreStatesOf, IsCellAt, AllStayLive, AppendsFirst, AppendsJoin, AppendsProduct, AppendsState, HasCellsOf, HasSpareForFirst, HasSpareForJoin, HasSpareForProduct, HasSpareForState, JoinOfFits, ProductOfFits, SumOfFits, WorkspaceView, AppendsSumOf};
@@ -16,7 +15,6 @@ use crate::firsts::table_behind;
 use crate::reading::read_cell;
 use crate::reorders::{reorder_behind, restrict_behind};
 use crate::slots::{Slot, Strip};
-use crate::states::StateCounts;
 use cell_rings::Cell;
 use maid_model::{Diagram, Profile};
 use std::alloc::{AllocError, Global};
@@ -79,14 +77,7 @@ impl<C: Cell> Workspace<C> {
 
     /// The first table of a node: a chance node's cells and the weights of a decision's rule by `Cell::weight`, over the
     /// node and its parents, and a utility's cells by `Cell::value`, over its parents.
-    pub fn table(
-        &mut self,
-        diagram: &Diagram,
-        counts: &StateCounts,
-        profile: &Profile,
-        node: usize,
-    ) -> Slot
-        requires counts { counts.now ≡ counts_of diagram.now.nodes }
+    pub fn table(&mut self, diagram: &Diagram, profile: &Profile, node: usize) -> Slot
         requires profile { IsProfile diagram.now.nodes profile.now }
         requires node { node < length diagram.now.nodes }
         requires fit { NumbersFit C.ring.most diagram.now.nodes profile.now node }
@@ -96,7 +87,7 @@ impl<C: Cell> Workspace<C> {
         blank(&mut self.cells, self.room);
         let slot = table_behind(
             diagram,
-            counts.as_slice(),
+            diagram.state_counts(),
             profile,
             node,
             self.cells.as_mut_slice(),
@@ -109,15 +100,7 @@ impl<C: Cell> Workspace<C> {
     /// The join of the slots with the node summed out of it: over their nodes but this one, and in each world the sum
     /// over the node's states of the product of the slots' cells. The joined table is never stored. It goes over each of
     /// its cells once.
-    pub fn join_out(
-        &mut self,
-        diagram: &Diagram,
-        counts: &StateCounts,
-        slots: &[Slot],
-        node: usize,
-    ) -> Slot
-        requires diagram { IsDiagram diagram.now }
-        requires counts { counts.now ≡ counts_of diagram.now.nodes }
+    pub fn join_out(&mut self, diagram: &Diagram, slots: &[Slot], node: usize) -> Slot
         requires few { length slots.now ≤ 256 }
         requires some { 0 < length slots.now }
         requires live { All (IsLiveSlot diagram.now.nodes self.old.cells) slots.now }
@@ -129,7 +112,7 @@ impl<C: Cell> Workspace<C> {
         blank(&mut self.cells, self.room);
         let slot = join_behind(
             diagram,
-            counts.as_slice(),
+            diagram.state_counts(),
             slots,
             node,
             self.cells.as_mut_slice(),
@@ -141,9 +124,7 @@ impl<C: Cell> Workspace<C> {
 
     /// The product of the slots: over their nodes, and in each world the product of their cells. Without a slot it has
     /// the one cell `one`.
-    pub fn product(&mut self, diagram: &Diagram, counts: &StateCounts, slots: &[Slot]) -> Slot
-        requires diagram { IsDiagram diagram.now }
-        requires counts { counts.now ≡ counts_of diagram.now.nodes }
+    pub fn product(&mut self, diagram: &Diagram, slots: &[Slot]) -> Slot
         requires few { length slots.now ≤ 256 }
         requires live { All (IsLiveSlot diagram.now.nodes self.old.cells) slots.now }
         requires fits { ProductOfFits C.ring diagram.now.nodes slots.now self.old }
@@ -153,7 +134,7 @@ impl<C: Cell> Workspace<C> {
         blank(&mut self.cells, self.room);
         let slot = product_behind(
             diagram,
-            counts.as_slice(),
+            diagram.state_counts(),
             slots,
             self.cells.as_mut_slice(),
             self.used,
@@ -164,22 +145,14 @@ impl<C: Cell> Workspace<C> {
 
     /// The slot with the node summed out of it: over its other nodes, and in each world the sum of its cells over the
     /// node's states.
-    pub fn sum_out(
-        &mut self,
-        diagram: &Diagram,
-        counts: &StateCounts,
-        slot: &Slot,
-        node: usize,
-    ) -> Slot
-        requires diagram { IsDiagram diagram.now }
-        requires counts { counts.now ≡ counts_of diagram.now.nodes }
+    pub fn sum_out(&mut self, diagram: &Diagram, slot: &Slot, node: usize) -> Slot
         requires live { IsLiveSlot diagram.now.nodes self.old.cells slot.now }
         requires hold { IsIn slot.now.scope node }
         requires fits { SumOfFits C.ring diagram.now.nodes node slot.now self.old }
         requires room { HasSpareForJoin C.ring diagram.now.nodes node (slot.now ∷ []) self.old }
         ensures { AppendsSumOf C.ring diagram.now.nodes node slot.now self.old self.new result }
     {
-        self.join_out(diagram, counts, &[*slot], node)
+        self.join_out(diagram, &[*slot], node)
     }
 
     /// The slot's cells at one state of the node, over its other nodes. It copies them.
@@ -220,8 +193,7 @@ impl<C: Cell> Workspace<C> {
         strip
     }
 
-    /// The slot's cell at these states of its nodes, the lowest node first. It reads the counts of states of all nodes anew
-    /// at each call.
+    /// The slot's cell at these states of its nodes, the lowest node first.
     pub fn at(&self, diagram: &Diagram, slot: &Slot, states: &[usize]) -> C
         requires live { IsLiveSlot diagram.now.nodes self.now.cells slot.now }
         requires states { AreStatesOf diagram.now.nodes slot.now states.now }

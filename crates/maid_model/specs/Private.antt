@@ -1,5 +1,5 @@
 -- Notions that only contracts of private functions cite.
-use Rattle.std.specs.Prelude.{◌≡◌, ◌≢◌, ℕ, ◌+◌, ◌<◌, ◌≤◌, ◌⊎◌, ◌↔◌, ◌==◌, List, length, slice_index, slice_index_or, slice_set, ℤ, pos, ◌*ℤ◌, if◌then◌else◌}
+use Rattle.std.specs.Prelude.{◌≡◌, ◌≢◌, ℕ, ◌+◌, ◌<◌, ◌≤◌, ◌⊎◌, ◌↔◌, ◌==◌, List, length, take, slice_index, slice_index_or, slice_set, ℤ, pos, ◌*ℤ◌, if◌then◌else◌}
 use Rattle.node_sets.specs.declared.sets.NodeSet.{NodeSet}
 use Rattle.node_sets.specs.Arcs.{HasParent, HasChild}
 use Rattle.node_sets.specs.Sets.{holds, IsIn}
@@ -9,7 +9,7 @@ use Rattle.maid_model.specs.Views.{NodeView, DiagramView, RuleView}
 use Rattle.maid_model.specs.Diagrams.{IsDiagram}
 use Rattle.maid_model.specs.Graph.{Arc}
 use Rattle.maid_model.specs.Relevance.{IsLive}
-use Rattle.maid_model.specs.Nodes.{IsDecision, IsUtility, node_at, numbers_of}
+use Rattle.maid_model.specs.Nodes.{IsDecision, IsUtility, counts_of, node_at, numbers_of}
 use Rattle.maid_model.specs.Gains.{table_without, weight_without}
 use Rattle.maid_model.specs.Profiles.{no_rule}
 use Rattle.finite_sums.specs.Sums.{World, sum_each}
@@ -20,14 +20,15 @@ use Rattle.maid_model.specs.Worlds.{world_of}
 abbrev pub HasLiveStates : NodeView → Type 0
 HasLiveStates node = (node.kind ≡ Utility) ⊎ (1 < node.states)
 
--- the sets of these nodes: each node's parents and children, the live nodes and the utilities
+-- what is kept of these nodes: each node's parents and children, the live nodes, the utilities, the counts of states
 pub record IsIndexOf (nodes : List NodeView) (index : NodeIndex) : Type 0 where
   pub parents : (u v : ℕ) → HasParent index.arcs u v ↔ Arc nodes u v
   pub children : (u v : ℕ) → HasChild index.arcs u v ↔ Arc nodes u v
   pub live : (v : ℕ) → IsIn index.live v ↔ IsLive nodes v
   pub utilities : (v : ℕ) → IsIn index.utilities v ↔ IsUtility nodes v
+  pub counts : take (length nodes) index.counts ≡ counts_of nodes
 
--- an influence diagram, and the sets of its nodes
+-- an influence diagram, and what is kept of its nodes
 pub record IsIndexed (d : DiagramView) (index : NodeIndex) : Type 0 where
   pub diagram : IsDiagram d
   pub nodes : IsIndexOf d.nodes index

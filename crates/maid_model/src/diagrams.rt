@@ -5,7 +5,7 @@ ghost use Rattle.node_sets.specs.Arcs.{HasParent, HasChild};
 ghost use Rattle.node_sets.specs.Sets.{IsIn};
 ghost use Rattle.maid_model.specs.Diagrams.{IsDiagram};
 ghost use Rattle.maid_model.specs.Graph.{Arc};
-ghost use Rattle.maid_model.specs.Nodes.{IsDecision, IsOwnedBy, IsUtility, agent_of, decisions_of, is_decision, node_at, parents_of, rows_of, states_of};
+ghost use Rattle.maid_model.specs.Nodes.{IsDecision, IsOwnedBy, IsUtility, agent_of, decisions_of, counts_of, is_decision, node_at, parents_of, rows_of, states_of};
 ghost use Rattle.maid_model.specs.Relevance.{IsLive};
 ghost use Rattle.maid_model.specs.Views.{diagram_of};
 ghost use Rattle.finite_sums.specs.Sums.{sum_below};
@@ -78,8 +78,8 @@ impl Model for Diagram {
 }
 
 impl Diagram {
-    /// The diagram of these nodes. It goes over all arcs once, and takes memory for the sets that it keeps of them, as
-    /// much whatever the nodes are.
+    /// The diagram of these nodes. It goes over all arcs once, and takes memory for the sets and counts that it keeps of
+    /// them, as much whatever the nodes are.
     ///
     /// # Errors
     ///
@@ -165,6 +165,14 @@ impl Diagram {
         ensures diagram { IsDiagram self.now }
     {
         self.nodes[v].states
+    }
+
+    /// How many states each node has, by number.
+    pub fn state_counts(&self) -> &[usize]
+        ensures counts { result.now ≡ counts_of self.now.nodes }
+        ensures diagram { IsDiagram self.now }
+    {
+        self.index.counts.split_at(self.nodes.len()).0
     }
 
     /// The node's parents, in the order of its table.

@@ -1,28 +1,31 @@
-//! The sets that a diagram keeps of its nodes: what searches along arcs ask again and again.
+//! What a diagram keeps of its nodes: sets that searches along arcs ask again and again, and the counts of states that
+//! sums do.
 
-ghost use Rattle.std.specs.Prelude.{◌≡◌, ℕ, ◌<◌, ◌≤◌, ◌↔◌, length, IsTrue};
+ghost use Rattle.std.specs.Prelude.{◌≡◌, ℕ, ◌<◌, ◌≤◌, ◌↔◌, length, take, IsTrue};
 ghost use Rattle.node_sets.specs.declared.sets.TheConstants.{MOST_NODES};
 ghost use Rattle.node_sets.specs.Arcs.{HasParent, HasChild};
 ghost use Rattle.node_sets.specs.Sets.{IsIn};
 ghost use Rattle.maid_model.specs.Graph.{Arc};
-ghost use Rattle.maid_model.specs.Nodes.{IsUtility};
+ghost use Rattle.maid_model.specs.Nodes.{IsUtility, counts_of};
 ghost use Rattle.maid_model.specs.Relevance.{IsLive};
 ghost use Rattle.maid_model.specs.Private.{HasLiveStates, IsIndexOf};
 
 use crate::diagrams::{Kind, Node};
-use node_sets::{ArcSets, NodeSet};
+use node_sets::{ArcSets, MOST_NODES, NodeSet};
 
-/// The sets of a list of nodes.
+/// The sets of a list of nodes, and their counts of states.
 #[derive(Clone, Copy, Debug)]
 pub(crate) struct NodeIndex {
     pub(crate) arcs: ArcSets,
     /// The nodes that can be on walks.
     pub(crate) live: NodeSet,
     pub(crate) utilities: NodeSet,
+    /// How many states each node has, by number; the places behind the last node have 1.
+    pub(crate) counts: [usize; MOST_NODES],
 }
 
 impl NodeIndex {
-    /// The sets of these nodes. It goes over all arcs once.
+    /// The sets and counts of these nodes. It goes over all arcs once.
     pub(crate) fn of(nodes: &[Node]) -> NodeIndex
         requires few { length nodes.now ≤ MOST_NODES }
         requires known { (u v : ℕ) → Arc nodes.now u v → u < length nodes.now }
@@ -32,6 +35,7 @@ impl NodeIndex {
             arcs: arcs_of(nodes),
             live: live_nodes_of(nodes),
             utilities: all_utilities_of(nodes),
+            counts: state_counts_of(nodes),
         }
     }
 }
@@ -93,4 +97,17 @@ fn all_utilities_of(nodes: &[Node]) -> NodeSet
         }
     }
     utilities
+}
+
+/// How many states each node has.
+fn state_counts_of(nodes: &[Node]) -> [usize; MOST_NODES]
+    requires { length nodes.now ≤ MOST_NODES }
+    ensures { take (length nodes.now) result ≡ counts_of nodes.now }
+{
+    let mut counts = [1; MOST_NODES];
+    for v in 0..nodes.len() {
+        let node = &nodes[v];
+        counts[v] = node.states;
+    }
+    counts
 }

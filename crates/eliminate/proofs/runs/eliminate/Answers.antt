@@ -41,12 +41,6 @@ gather-count-requires-clause-room g c = front_room c.args.places.made c.args.slo
 pub before-requires-2 : goal.before-requires-2
 before-requires-2 g c = found_within c.args.places.made c.args.slots.now c.before-2.result.now c.before-2.ensures c.requires.made c.gather-count.new.found (c.gather-count.auto.found ∙ c.requires.joined) c.gather-count.result c.gather-count.ensures.few
 
-pub join_out-slot-requires-clause-diagram : goal.join_out-slot-requires-clause-diagram
-join_out-slot-requires-clause-diagram g c = c.requires.diagram
-
-pub join_out-slot-requires-clause-counts : goal.join_out-slot-requires-clause-counts
-join_out-slot-requires-clause-counts g c = c.requires.counts
-
 pub join_out-slot-requires-clause-few : goal.join_out-slot-requires-clause-few
 join_out-slot-requires-clause-few g c = found_few c.args.places.made c.args.slots.now c.before-2.result.now c.before-2.ensures c.requires.made c.gather-count.new.found (c.gather-count.auto.found ∙ c.requires.joined) c.gather-count.result c.gather-count.ensures.few c.before-3.result.now c.before-3.ensures MOST_NODES c.requires.slots
 

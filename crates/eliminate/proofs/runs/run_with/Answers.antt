@@ -19,9 +19,6 @@ first_tables-count-requires-clause-asked g c = c.requires.asked
 pub first_tables-count-requires-clause-order : goal.first_tables-count-requires-clause-order
 first_tables-count-requires-clause-order g c = c.requires.made.order
 
-pub first_tables-count-requires-clause-counts : goal.first_tables-count-requires-clause-counts
-first_tables-count-requires-clause-counts g c = c.of-counts.ensures.counts
-
 pub first_tables-count-requires-clause-profile : goal.first_tables-count-requires-clause-profile
 first_tables-count-requires-clause-profile g c = c.requires.profile
 
@@ -72,12 +69,6 @@ loop-node-init g c =
 
 pub bounds-node-items-node-index : goal.bounds-node-items-node-index
 bounds-node-items-node-index g c = c.loop-node-test.true
-
-pub eliminate-places-requires-clause-diagram : goal.eliminate-places-requires-clause-diagram
-eliminate-places-requires-clause-diagram g c = c.of-counts.ensures.diagram
-
-pub eliminate-places-requires-clause-counts : goal.eliminate-places-requires-clause-counts
-eliminate-places-requires-clause-counts g c = c.of-counts.ensures.counts
 
 pub eliminate-places-requires-clause-board : goal.eliminate-places-requires-clause-board
 eliminate-places-requires-clause-board g c = c.loop-node.invariant.board
@@ -131,12 +122,6 @@ gather_live-count-requires-clause-room g c = c.loop-node.invariant.joined ∙ c.
 
 pub before-requires : goal.before-requires
 before-requires g c = omega (arith, c.gather_live-count.ensures.few, c.gather_live-count.auto.found, c.loop-node.invariant.joined, c.requires.joined, c.loop-node.invariant.slots)
-
-pub product-requires-clause-diagram : goal.product-requires-clause-diagram
-product-requires-clause-diagram g c = c.of-counts.ensures.diagram
-
-pub product-requires-clause-counts : goal.product-requires-clause-counts
-product-requires-clause-counts g c = c.of-counts.ensures.counts
 
 pub product-requires-clause-few : goal.product-requires-clause-few
 product-requires-clause-few g c = at_most c.gather_live-count.result MOST_NODES c.gather_live-count.new.found c.before-2.ensures (omega (arith, c.gather_live-count.ensures.few, c.loop-node.invariant.slots, c.requires.slots))

@@ -47,12 +47,6 @@ returns-in_err-left-clause-grows g c = grows_by c.loop-node.invariant.lists.list
 pub returns-clause-grows : goal.returns-clause-grows
 returns-clause-grows g c = grows_by c.loop-node.invariant.lists.lists.stand
 
-pub count_cells-cells-requires : goal.count_cells-cells-requires
-count_cells-cells-requires g c = c.requires.counts
-
-pub put_table-count-requires-clause-counts : goal.put_table-count-requires-clause-counts
-put_table-count-requires-clause-counts g c = c.requires.counts
-
 pub put_table-count-requires-clause-profile : goal.put_table-count-requires-clause-profile
 put_table-count-requires-clause-profile g c = c.requires.profile
 

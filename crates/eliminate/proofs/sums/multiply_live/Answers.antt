@@ -30,9 +30,6 @@ gather_live-count-requires-clause-room g c = c.requires.joined
 pub before-last-requires : goal.before-last-requires
 before-last-requires g c = omega (arith, c.gather_live-count.ensures.few, c.gather_live-count.auto.found, c.requires.joined)
 
-pub spend_on_product-requires : goal.spend_on_product-requires
-spend_on_product-requires g c = c.requires.counts
-
 pub returns-in_err-spend_on_product-clause-some : goal.returns-in_err-spend_on_product-clause-some
 returns-in_err-spend_on_product-clause-some g c = rw c.from_residual.ensures tt
 
@@ -45,12 +42,6 @@ returns-in_err-spend_on_product-clause-none g c =
 
 pub returns-in_err-spend_on_product-clause-grows : goal.returns-in_err-spend_on_product-clause-grows
 returns-in_err-spend_on_product-clause-grows g c = grows_none
-
-pub product-requires-clause-diagram : goal.product-requires-clause-diagram
-product-requires-clause-diagram g c = c.requires.diagram
-
-pub product-requires-clause-counts : goal.product-requires-clause-counts
-product-requires-clause-counts g c = c.requires.counts
 
 pub product-requires-clause-few : goal.product-requires-clause-few
 product-requires-clause-few g c = at_most c.gather_live-count.result MOST_NODES c.gather_live-count.new.found c.before-last.ensures (omega (arith, c.gather_live-count.ensures.few, c.requires.slots))

@@ -10,9 +10,6 @@ use Rattle.eliminate.proofs.Within.{first_too_much, sum_starts, next_step, no_st
 use Rattle.eliminate.proofs.sums.sum_with.Goals as goal
 
 -- the first tables are what a sum starts from, each step leads it on, and the product of what is left ends it
-pub list_tables-requires-clause-counts : goal.list_tables-requires-clause-counts
-list_tables-requires-clause-counts g c = c.of-counts.ensures.counts
-
 pub list_tables-requires-clause-profile : goal.list_tables-requires-clause-profile
 list_tables-requires-clause-profile g c = c.requires.profile
 
@@ -67,9 +64,6 @@ loop-node-init g c = record {
 pub bounds-steps-node-index : goal.bounds-steps-node-index
 bounds-steps-node-index g c = c.loop-node-test.true
 
-pub spend_on_step-requires-clause-counts : goal.spend_on_step-requires-clause-counts
-spend_on_step-requires-clause-counts g c = c.of-counts.ensures.counts
-
 pub spend_on_step-requires-clause-board : goal.spend_on_step-requires-clause-board
 spend_on_step-requires-clause-board g c = c.loop-node.invariant.board
 
@@ -86,7 +80,7 @@ pub spend_on_step-requires-clause-node : goal.spend_on_step-requires-clause-node
 spend_on_step-requires-clause-node g c =
     let node = get_or c.args.steps.now c.loop-node.node-index 0 in
     let known : node < length c.args.diagram.now.nodes = c.requires.steps c.loop-node.node-index 0 c.loop-node-test.true in
-    (below_three node (length c.args.diagram.now.nodes) (length c.args.at.now) (length c.loop-node.at) known c.requires.at c.loop-node.invariant.at, below_two node (length c.args.diagram.now.nodes) MOST_NODES known c.of-counts.ensures.diagram.limits.nodes)
+    (below_three node (length c.args.diagram.now.nodes) (length c.args.at.now) (length c.loop-node.at) known c.requires.at c.loop-node.invariant.at, below_two node (length c.args.diagram.now.nodes) MOST_NODES known c.count-count.ensures.diagram.limits.nodes)
 
 pub returns-in_err-left-2-clause-some : goal.returns-in_err-left-2-clause-some
 returns-in_err-left-2-clause-some g c = rw c.from_residual-in_err-left-2.ensures tt
@@ -98,12 +92,6 @@ returns-in_err-left-2-clause-none g c =
 
 pub returns-in_err-left-2-clause-grows : goal.returns-in_err-left-2-clause-grows
 returns-in_err-left-2-clause-grows g c = has_grown c.loop-node.invariant.sum
-
-pub eliminate-places-requires-clause-diagram : goal.eliminate-places-requires-clause-diagram
-eliminate-places-requires-clause-diagram g c = c.of-counts.ensures.diagram
-
-pub eliminate-places-requires-clause-counts : goal.eliminate-places-requires-clause-counts
-eliminate-places-requires-clause-counts g c = c.of-counts.ensures.counts
 
 pub eliminate-places-requires-clause-board : goal.eliminate-places-requires-clause-board
 eliminate-places-requires-clause-board g c = c.loop-node.invariant.board
@@ -135,12 +123,6 @@ loop-node-preserved g c = record {
   at = c.eliminate-places.auto.at ∙ c.loop-node.invariant.at;
   joined = c.eliminate-places.auto.joined ∙ c.spend_on_step.auto.joined ∙ c.loop-node.invariant.joined;
 }
-
-pub multiply_live-requires-clause-diagram : goal.multiply_live-requires-clause-diagram
-multiply_live-requires-clause-diagram g c = c.of-counts.ensures.diagram
-
-pub multiply_live-requires-clause-counts : goal.multiply_live-requires-clause-counts
-multiply_live-requires-clause-counts g c = c.of-counts.ensures.counts
 
 pub multiply_live-requires-clause-within : goal.multiply_live-requires-clause-within
 multiply_live-requires-clause-within g c = c.loop-node.invariant.board.within

@@ -36,13 +36,13 @@ gives nodes scope w states e = record {
 pub place_for-requires-clause-counts : goal.place_for-requires-clause-counts
 place_for-requires-clause-counts g c =
     let d = c.args.diagram.now in
-    let is : c.as_slice.result.now ≡ counts_of d.nodes = c.as_slice.ensures ∙ c.of-counts.ensures.counts in
-    subst AreCounts (sym is) (are_counts d c.of-counts.ensures.diagram)
+    let is : c.state_counts-counts.result.now ≡ counts_of d.nodes = c.state_counts-counts.ensures.counts in
+    subst AreCounts (sym is) (are_counts d c.state_counts-counts.ensures.diagram)
 
 pub place_for-requires-clause-fits : goal.place_for-requires-clause-fits
 place_for-requires-clause-fits g c =
     let d = c.args.diagram.now in
-    let is : c.as_slice.result.now ≡ counts_of d.nodes = c.as_slice.ensures ∙ c.of-counts.ensures.counts in
+    let is : c.state_counts-counts.result.now ≡ counts_of d.nodes = c.state_counts-counts.ensures.counts in
     let live = lies_in g.C.Cell.ring d.nodes (take c.args.used c.args.all.now) c.args.slot.now c.requires.live in
     let long = length-take-le c.args.used c.args.all.now c.requires.used in
     omega (arith, ap (λ cs. size_of cs c.args.slot.now.scope) is, live.size, live.within, long, c.requires.used, c.requires.short)
@@ -50,13 +50,13 @@ place_for-requires-clause-fits g c =
 pub place_for-requires-clause-states : goal.place_for-requires-clause-states
 place_for-requires-clause-states g c =
     let d = c.args.diagram.now in
-    let is : c.as_slice.result.now ≡ counts_of d.nodes = c.as_slice.ensures ∙ c.of-counts.ensures.counts in
+    let is : c.state_counts-counts.result.now ≡ counts_of d.nodes = c.state_counts-counts.ensures.counts in
     subst (λ cs. AreScopeStates cs c.args.slot.now.scope c.args.states.now) (sym is) (are_states d.nodes c.args.slot.now.scope c.args.states.now c.requires.states)
 
 pub overflow_add-result : goal.overflow_add-result
 overflow_add-result g c =
     let d = c.args.diagram.now in
-    let is : c.as_slice.result.now ≡ counts_of d.nodes = c.as_slice.ensures ∙ c.of-counts.ensures.counts in
+    let is : c.state_counts-counts.result.now ≡ counts_of d.nodes = c.state_counts-counts.ensures.counts in
     let live = lies_in g.C.Cell.ring d.nodes (take c.args.used c.args.all.now) c.args.slot.now c.requires.live in
     let long = length-take-le c.args.used c.args.all.now c.requires.used in
     let small : c.args.slot.now.start + c.place_for.result < 2 ^ 64 = omega (arith, ap (λ cs. size_of cs c.args.slot.now.scope) is, c.place_for.ensures.within, live.size, live.within, long, c.requires.used, c.requires.short) in
@@ -65,7 +65,7 @@ overflow_add-result g c =
 pub offset_bounds-all-slot : goal.offset_bounds-all-slot
 offset_bounds-all-slot g c =
     let d = c.args.diagram.now in
-    let is : c.as_slice.result.now ≡ counts_of d.nodes = c.as_slice.ensures ∙ c.of-counts.ensures.counts in
+    let is : c.state_counts-counts.result.now ≡ counts_of d.nodes = c.state_counts-counts.ensures.counts in
     let live = lies_in g.C.Cell.ring d.nodes (take c.args.used c.args.all.now) c.args.slot.now c.requires.live in
     let long = length-take-le c.args.used c.args.all.now c.requires.used in
     omega (arith, ap (λ cs. size_of cs c.args.slot.now.scope) is, c.place_for.ensures.within, live.size, live.within, long, c.requires.used)
@@ -73,7 +73,7 @@ offset_bounds-all-slot g c =
 pub bounds-all-slot : goal.bounds-all-slot
 bounds-all-slot g c =
     let d = c.args.diagram.now in
-    let is : c.as_slice.result.now ≡ counts_of d.nodes = c.as_slice.ensures ∙ c.of-counts.ensures.counts in
+    let is : c.state_counts-counts.result.now ≡ counts_of d.nodes = c.state_counts-counts.ensures.counts in
     let live = lies_in g.C.Cell.ring d.nodes (take c.args.used c.args.all.now) c.args.slot.now c.requires.live in
     let long = length-take-le c.args.used c.args.all.now c.requires.used in
     omega (arith, ap (λ cs. size_of cs c.args.slot.now.scope) is, c.place_for.ensures.within, live.size, live.within, long, c.requires.used)
@@ -85,7 +85,7 @@ returns g c = λ w e.
     let slot = c.args.slot.now in
     let all = c.args.all.now in
     let cells = take c.args.used all in
-    let is : c.as_slice.result.now ≡ counts_of d.nodes = c.as_slice.ensures ∙ c.of-counts.ensures.counts in
+    let is : c.state_counts-counts.result.now ≡ counts_of d.nodes = c.state_counts-counts.ensures.counts in
     let live = lies_in r d.nodes cells slot c.requires.live in
     let long = length-take-le c.args.used all c.requires.used in
     let below : c.place_for.result < slot.len = omega (arith, ap (λ cs. size_of cs slot.scope) is, c.place_for.ensures.within, live.size) in

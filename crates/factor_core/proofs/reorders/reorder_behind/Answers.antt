@@ -21,26 +21,26 @@ use Rattle.factor_core.proofs.reorders.reorder_behind.Goals as goal
 pub set_steps-requires-clause-counts : goal.set_steps-requires-clause-counts
 set_steps-requires-clause-counts g c =
     let d = c.args.diagram.now in
-    let is : c.as_slice-counts.result.now ≡ counts_of d.nodes = c.as_slice-counts.ensures ∙ c.of-counts.ensures.counts in
-    subst AreCounts (sym is) (are_counts d c.of-counts.ensures.diagram)
+    let is : c.state_counts-counts.result.now ≡ counts_of d.nodes = c.state_counts-counts.ensures.counts in
+    subst AreCounts (sym is) (are_counts d c.state_counts-counts.ensures.diagram)
 
 pub set_steps-requires-clause-order : goal.set_steps-requires-clause-order
 set_steps-requires-clause-order g c =
     let d = c.args.diagram.now in
-    let is : c.as_slice-counts.result.now ≡ counts_of d.nodes = c.as_slice-counts.ensures ∙ c.of-counts.ensures.counts in
-    below_of (length c.as_slice-counts.result.now) c.args.nodes.now (λ v m. let k = c.requires.live.known v ((c.requires.scope v).0 m) in omega (arith, k, ap length is, counts_length d.nodes))
+    let is : c.state_counts-counts.result.now ≡ counts_of d.nodes = c.state_counts-counts.ensures.counts in
+    below_of (length c.state_counts-counts.result.now) c.args.nodes.now (λ v m. let k = c.requires.live.known v ((c.requires.scope v).0 m) in omega (arith, k, ap length is, counts_length d.nodes))
 
 pub set_steps-requires-clause-room : goal.set_steps-requires-clause-room
 set_steps-requires-clause-room g c =
     let d = c.args.diagram.now in
     let h = holds c.args.slot.now.scope in
     let mixed = shuffled_nodes d.nodes h c.args.nodes.now c.requires.once c.requires.scope c.requires.live.known in
-    omega (arith, length_shuffled mixed, ap length (nodes_are d.nodes h), listed_few h (length (counts_of d.nodes)), counts_length d.nodes, c.of-counts.ensures.diagram.limits.nodes)
+    omega (arith, length_shuffled mixed, ap length (nodes_are d.nodes h), listed_few h (length (counts_of d.nodes)), counts_length d.nodes, c.state_counts-counts.ensures.diagram.limits.nodes)
 
 pub set_steps-requires-clause-fits : goal.set_steps-requires-clause-fits
 set_steps-requires-clause-fits g c =
     let d = c.args.diagram.now in
-    let is : c.as_slice-counts.result.now ≡ counts_of d.nodes = c.as_slice-counts.ensures ∙ c.of-counts.ensures.counts in
+    let is : c.state_counts-counts.result.now ≡ counts_of d.nodes = c.state_counts-counts.ensures.counts in
     let live = lies_in g.C.Cell.ring d.nodes (take c.args.used c.args.all.now) c.args.slot.now c.requires.live in
     let long = length-take-le c.args.used c.args.all.now c.requires.used in
     omega (arith, ap (λ cs. size_of cs c.args.slot.now.scope) is, live.size, live.within, long, c.requires.used, c.requires.short)
@@ -49,13 +49,13 @@ pub copy_at-requires-clause-can : goal.copy_at-requires-clause-can
 copy_at-requires-clause-can g c =
     let d = c.args.diagram.now in
     let r = g.C.Cell.ring in
-    let counts = c.as_slice-counts.result.now in
-    let is : c.as_slice-counts.result.now ≡ counts_of d.nodes = c.as_slice-counts.ensures ∙ c.of-counts.ensures.counts in
+    let counts = c.state_counts-counts.result.now in
+    let is : c.state_counts-counts.result.now ≡ counts_of d.nodes = c.state_counts-counts.ensures.counts in
     let cells = take c.args.used c.args.all.now in
     let slot = c.args.slot.now in
     let vs = c.args.nodes.now in
     let h = holds slot.scope in
-    let are = subst AreCounts (sym is) (are_counts d c.of-counts.ensures.diagram) in
+    let are = subst AreCounts (sym is) (are_counts d c.state_counts-counts.ensures.diagram) in
     let live = subst (λ cs. LiesIn cs (length cells) slot) (sym is) (lies_in r d.nodes cells slot c.requires.live) in
     let long = length-take-le c.args.used c.args.all.now c.requires.used in
     let small : size_of counts slot.scope ≤ 2 ^ 32 = omega (arith, live.size, live.within, long, c.requires.used, c.requires.short) in
@@ -79,8 +79,8 @@ pub returns-clause-moves : goal.returns-clause-moves
 returns-clause-moves g c =
     let d = c.args.diagram.now in
     let r = g.C.Cell.ring in
-    let counts = c.as_slice-counts.result.now in
-    let is : c.as_slice-counts.result.now ≡ counts_of d.nodes = c.as_slice-counts.ensures ∙ c.of-counts.ensures.counts in
+    let counts = c.state_counts-counts.result.now in
+    let is : c.state_counts-counts.result.now ≡ counts_of d.nodes = c.state_counts-counts.ensures.counts in
     let used = c.args.used in
     let all = c.args.all.now in
     let new = c.copy_at.new.all in

@@ -27,37 +27,37 @@ held_too false b e = absurd (let no : false ≡ true = e in cc)
 pub table_size-len-requires-clause-counts : goal.table_size-len-requires-clause-counts
 table_size-len-requires-clause-counts g c =
     let d = c.args.diagram.now in
-    let is : c.as_slice-counts.result.now ≡ counts_of d.nodes = c.as_slice-counts.ensures ∙ c.of-counts.ensures.counts in
-    subst AreCounts (sym is) (are_counts d c.of-counts.ensures.diagram)
+    let is : c.state_counts-counts.result.now ≡ counts_of d.nodes = c.state_counts-counts.ensures.counts in
+    subst AreCounts (sym is) (are_counts d c.state_counts-counts.ensures.diagram)
 
 pub table_size-len-requires-clause-fits : goal.table_size-len-requires-clause-fits
 table_size-len-requires-clause-fits g c =
     let d = c.args.diagram.now in
-    let is : c.as_slice-counts.result.now ≡ counts_of d.nodes = c.as_slice-counts.ensures ∙ c.of-counts.ensures.counts in
+    let is : c.state_counts-counts.result.now ≡ counts_of d.nodes = c.state_counts-counts.ensures.counts in
     let t = restricted c.args.node c.args.state (table_of g.C.Cell.ring d.nodes (take c.args.used c.args.all.now) c.args.slot.now) in
-    size_small d.nodes c.as_slice-counts.result.now is c.without-scope.result t.holds c.without-scope.ensures c.args.all.now c.args.used c.requires.used c.requires.room c.requires.short
+    size_small d.nodes c.state_counts-counts.result.now is c.without-scope.result t.holds c.without-scope.ensures c.args.all.now c.args.used c.requires.used c.requires.room c.requires.short
 
 pub list_nodes-n-requires-clause-room : goal.list_nodes-n-requires-clause-room
 list_nodes-n-requires-clause-room g c =
     let d = c.args.diagram.now in
-    let is : c.as_slice-counts.result.now ≡ counts_of d.nodes = c.as_slice-counts.ensures ∙ c.of-counts.ensures.counts in
-    omega (arith, listed_few (holds c.without-scope.result) (length c.as_slice-counts.result.now), ap length is, counts_length d.nodes, c.of-counts.ensures.diagram.limits.nodes)
+    let is : c.state_counts-counts.result.now ≡ counts_of d.nodes = c.state_counts-counts.ensures.counts in
+    omega (arith, listed_few (holds c.without-scope.result) (length c.state_counts-counts.result.now), ap length is, counts_length d.nodes, c.state_counts-counts.ensures.diagram.limits.nodes)
 
 pub set_steps-requires-clause-counts : goal.set_steps-requires-clause-counts
 set_steps-requires-clause-counts g c =
     let d = c.args.diagram.now in
-    let is : c.as_slice-counts.result.now ≡ counts_of d.nodes = c.as_slice-counts.ensures ∙ c.of-counts.ensures.counts in
-    subst AreCounts (sym is) (are_counts d c.of-counts.ensures.diagram)
+    let is : c.state_counts-counts.result.now ≡ counts_of d.nodes = c.state_counts-counts.ensures.counts in
+    subst AreCounts (sym is) (are_counts d c.state_counts-counts.ensures.diagram)
 
 pub set_steps-requires-clause-order : goal.set_steps-requires-clause-order
 set_steps-requires-clause-order g c =
-    let n = length c.as_slice-counts.result.now in
+    let n = length c.state_counts-counts.result.now in
     subst (All (λ v. v < n)) (sym (c.before-order.ensures ∙ c.list_nodes-n.ensures.list)) (listed_below (holds c.without-scope.result) n n 0 (omega arith))
 
 pub set_steps-requires-clause-fits : goal.set_steps-requires-clause-fits
 set_steps-requires-clause-fits g c =
     let d = c.args.diagram.now in
-    let is : c.as_slice-counts.result.now ≡ counts_of d.nodes = c.as_slice-counts.ensures ∙ c.of-counts.ensures.counts in
+    let is : c.state_counts-counts.result.now ≡ counts_of d.nodes = c.state_counts-counts.ensures.counts in
     let live = lies_in g.C.Cell.ring d.nodes (take c.args.used c.args.all.now) c.args.slot.now c.requires.live in
     let long = length-take-le c.args.used c.args.all.now c.requires.used in
     omega (arith, ap (λ cs. size_of cs c.args.slot.now.scope) is, live.size, live.within, long, c.requires.used, c.requires.short)
@@ -65,13 +65,13 @@ set_steps-requires-clause-fits g c =
 pub first_of_state-from-requires-clause-counts : goal.first_of_state-from-requires-clause-counts
 first_of_state-from-requires-clause-counts g c =
     let d = c.args.diagram.now in
-    let is : c.as_slice-counts.result.now ≡ counts_of d.nodes = c.as_slice-counts.ensures ∙ c.of-counts.ensures.counts in
-    subst AreCounts (sym is) (are_counts d c.of-counts.ensures.diagram)
+    let is : c.state_counts-counts.result.now ≡ counts_of d.nodes = c.state_counts-counts.ensures.counts in
+    subst AreCounts (sym is) (are_counts d c.state_counts-counts.ensures.diagram)
 
 pub first_of_state-from-requires-clause-fits : goal.first_of_state-from-requires-clause-fits
 first_of_state-from-requires-clause-fits g c =
     let d = c.args.diagram.now in
-    let is : c.as_slice-counts.result.now ≡ counts_of d.nodes = c.as_slice-counts.ensures ∙ c.of-counts.ensures.counts in
+    let is : c.state_counts-counts.result.now ≡ counts_of d.nodes = c.state_counts-counts.ensures.counts in
     let live = lies_in g.C.Cell.ring d.nodes (take c.args.used c.args.all.now) c.args.slot.now c.requires.live in
     let long = length-take-le c.args.used c.args.all.now c.requires.used in
     omega (arith, ap (λ cs. size_of cs c.args.slot.now.scope) is, live.size, live.within, long, c.requires.used, c.requires.short)
@@ -79,11 +79,11 @@ first_of_state-from-requires-clause-fits g c =
 pub first_of_state-from-requires-clause-near : goal.first_of_state-from-requires-clause-near
 first_of_state-from-requires-clause-near g c =
     let d = c.args.diagram.now in
-    let is : c.as_slice-counts.result.now ≡ counts_of d.nodes = c.as_slice-counts.ensures ∙ c.of-counts.ensures.counts in
+    let is : c.state_counts-counts.result.now ≡ counts_of d.nodes = c.state_counts-counts.ensures.counts in
     let live = lies_in g.C.Cell.ring d.nodes (take c.args.used c.args.all.now) c.args.slot.now c.requires.live in
     let long = length-take-le c.args.used c.args.all.now c.requires.used in
     let known = c.requires.live.known c.args.node c.requires.hold in
-    stride_small c.as_slice-counts.result.now (subst AreCounts (sym is) (are_counts d c.of-counts.ensures.diagram)) c.args.slot.now.scope c.args.node
+    stride_small c.state_counts-counts.result.now (subst AreCounts (sym is) (are_counts d c.state_counts-counts.ensures.diagram)) c.args.slot.now.scope c.args.node
     (omega (arith, known, ap length is, counts_length d.nodes))
     (omega (arith, ap (λ cs. size_of cs c.args.slot.now.scope) is, live.size, live.within, long, c.requires.used, c.requires.short))
 
@@ -91,14 +91,14 @@ pub copy_at-requires-clause-can : goal.copy_at-requires-clause-can
 copy_at-requires-clause-can g c =
     let d = c.args.diagram.now in
     let r = g.C.Cell.ring in
-    let counts = c.as_slice-counts.result.now in
-    let is : c.as_slice-counts.result.now ≡ counts_of d.nodes = c.as_slice-counts.ensures ∙ c.of-counts.ensures.counts in
+    let counts = c.state_counts-counts.result.now in
+    let is : c.state_counts-counts.result.now ≡ counts_of d.nodes = c.state_counts-counts.ensures.counts in
     let cells = take c.args.used c.args.all.now in
     let slot = c.args.slot.now in
     let x = c.args.node in
     let scope = c.without-scope.result in
     let order = listed (holds scope) 0 (length counts) in
-    let are = subst AreCounts (sym is) (are_counts d c.of-counts.ensures.diagram) in
+    let are = subst AreCounts (sym is) (are_counts d c.state_counts-counts.ensures.diagram) in
     let live = subst (λ cs. LiesIn cs (length cells) slot) (sym is) (lies_in r d.nodes cells slot c.requires.live) in
     let long = length-take-le c.args.used c.args.all.now c.requires.used in
     let small : size_of counts slot.scope ≤ 2 ^ 32 = omega (arith, live.size, live.within, long, c.requires.used, c.requires.short) in
@@ -122,17 +122,17 @@ copy_at-requires-clause-can g c =
 pub returns-clause-len : goal.returns-clause-len
 returns-clause-len g c =
     let d = c.args.diagram.now in
-    let is : c.as_slice-counts.result.now ≡ counts_of d.nodes = c.as_slice-counts.ensures ∙ c.of-counts.ensures.counts in
+    let is : c.state_counts-counts.result.now ≡ counts_of d.nodes = c.state_counts-counts.ensures.counts in
     let t = restricted c.args.node c.args.state (table_of g.C.Cell.ring d.nodes (take c.args.used c.args.all.now) c.args.slot.now) in
     let same : length c.copy_at.new.all ≡ length c.args.all.now = search rules in
-    omega (arith, same, c.table_size-len.ensures, ends_within d.nodes c.as_slice-counts.result.now is c.without-scope.result t.holds c.without-scope.ensures c.args.all.now c.args.used c.requires.used c.requires.room)
+    omega (arith, same, c.table_size-len.ensures, ends_within d.nodes c.state_counts-counts.result.now is c.without-scope.result t.holds c.without-scope.ensures c.args.all.now c.args.used c.requires.used c.requires.room)
 
 pub returns-clause-table : goal.returns-clause-table
 returns-clause-table g c =
     let d = c.args.diagram.now in
     let r = g.C.Cell.ring in
-    let counts = c.as_slice-counts.result.now in
-    let is : c.as_slice-counts.result.now ≡ counts_of d.nodes = c.as_slice-counts.ensures ∙ c.of-counts.ensures.counts in
+    let counts = c.state_counts-counts.result.now in
+    let is : c.state_counts-counts.result.now ≡ counts_of d.nodes = c.state_counts-counts.ensures.counts in
     let used = c.args.used in
     let all = c.args.all.now in
     let cells = take used all in

@@ -16,7 +16,7 @@ pub join_behind-slot-requires-clause-short : goal.join_behind-slot-requires-clau
 join_behind-slot-requires-clause-short g c = omega (arith, c.self.invariant.2, c.blank.ensures.len, c.as_mut_slice.ensures.len)
 
 pub join_behind-slot-requires-clause-diagram : goal.join_behind-slot-requires-clause-diagram
-join_behind-slot-requires-clause-diagram g c = c.requires.diagram
+join_behind-slot-requires-clause-diagram g c = c.state_counts.ensures.diagram
 
 pub join_behind-slot-requires-clause-few : goal.join_behind-slot-requires-clause-few
 join_behind-slot-requires-clause-few g c = c.requires.few

@@ -16,7 +16,7 @@ pub product_behind-slot-requires-clause-short : goal.product_behind-slot-require
 product_behind-slot-requires-clause-short g c = omega (arith, c.self.invariant.2, c.blank.ensures.len, c.as_mut_slice.ensures.len)
 
 pub product_behind-slot-requires-clause-diagram : goal.product_behind-slot-requires-clause-diagram
-product_behind-slot-requires-clause-diagram g c = c.requires.diagram
+product_behind-slot-requires-clause-diagram g c = c.state_counts.ensures.diagram
 
 pub product_behind-slot-requires-clause-few : goal.product_behind-slot-requires-clause-few
 product_behind-slot-requires-clause-few g c = c.requires.few
