@@ -1,18 +1,16 @@
 -- A sum over the list of all worlds is the sum over the nodes.
 use Rattle.std.proofs.Common.{◌≡◌, ℕ, zero, suc, ◌+◌, ◌<◌, List, [], ◌∷◌, ◌++◌, map, get_or, flat_map, ℤ, ◌+ℤ◌, refl, sym, ap, ◌∙◌, arith}
-use Rattle.std.proofs.lemmas.Int.{ints}
-use Rattle.std.proofs.lemmas.Bool.Decides.{nat_tests}
 use Rattle.std.proofs.Math.Path.{fun_ext}
-use Rattle.std.proofs.Math.IntN.{+ℤ_idl, +ℤ_idr}
+use Rattle.std.proofs.Math.IntN.{+ℤ_assoc, +ℤ_idl, +ℤ_idr}
 use Rattle.std.specs.List.{range_with_len}
 use Rattle.finite_sums.specs.Sums.{World, with_state, sum_below, sum_over}
 use Rattle.maid_model.specs.Worlds.{sum_list, worlds, world_of}
-use Rattle.finite_sums.proofs.Sums.{sum_below_cong}
+use Rattle.finite_sums.proofs.Sums.{sum_below_cong, with_same, with_other}
 use Rattle.finite_sums.proofs.Ranges.{range_push}
 
 pub sum_list-append : {X : Type 0} (f : X → ℤ) (xs ys : List X) → sum_list f (xs ++ ys) ≡ sum_list f xs +ℤ sum_list f ys
 sum_list-append f [] ys = sym (+ℤ_idl (sum_list f ys))
-sum_list-append f (x ∷ xs) ys = omega (arith, ints, sum_list-append f xs ys)
+sum_list-append f (x ∷ xs) ys = ap (λ y. f x +ℤ y) (sum_list-append f xs ys) ∙ sym (+ℤ_assoc (f x) (sum_list f xs) (sum_list f ys))
 
 pub sum_list-map : {X Y : Type 0} (f : Y → ℤ) (g : X → Y) (xs : List X) → sum_list f (map g xs) ≡ sum_list (λ x. f (g x)) xs
 sum_list-map f g [] = refl
@@ -29,7 +27,7 @@ sum_list-range : (n : ℕ) (f : ℕ → ℤ) → sum_list f (range_with_len 0 n)
 sum_list-range zero f = refl
 sum_list-range (suc n) f =
     ap (sum_list f) (range_push 0 n) ∙ sum_list-append f (range_with_len 0 n) ((0 + n) ∷ [])
-    ∙ omega (arith, ints, sum_list-range n f, ap f (z n))
+    ∙ ap (λ y. sum_list f (range_with_len 0 n) +ℤ y) (+ℤ_idr (f (0 + n)) ∙ ap f (z n)) ∙ ap (λ y. y +ℤ f n) (sum_list-range n f)
   where
     z : (n : ℕ) → 0 + n ≡ n
     z n = omega arith
@@ -49,24 +47,21 @@ sum_worlds_from count k (suc n) f w =
 
 put_before : (k : ℕ) (xs : List ℕ) (w : World) (u : ℕ) → u < k → put k xs w u ≡ w u
 put_before k [] w u h = refl
-put_before k (x ∷ xs) w u h = put_before (k + 1) xs (with_state w k x) u (omega arith) ∙ other w k x u h
-  where
-    other : (w : World) (k x u : ℕ) → u < k → with_state w k x u ≡ w u
-    other w k x u h = grind (arith, nat_tests)
+put_before k (x ∷ xs) w u h = put_before (k + 1) xs (with_state w k x) u (omega (arith, h)) ∙ with_other w k x u (λ e. omega (arith, h, e))
 
 put_at : (k : ℕ) (xs : List ℕ) (w : World) (j : ℕ) → put k xs w (k + j) ≡ get_or xs j (w (k + j))
 put_at k [] w j = refl
-put_at k (x ∷ xs) w zero = put_before (k + 1) xs (with_state w k x) (k + 0) (omega arith) ∙ at w k x
+put_at k (x ∷ xs) w zero =
+    ap (put (k + 1) xs (with_state w k x)) (none k) ∙ put_before (k + 1) xs (with_state w k x) k (omega arith) ∙ with_same w k x
   where
-    at : (w : World) (k x : ℕ) → with_state w k x (k + 0) ≡ x
-    at w k x = grind (arith, nat_tests)
-put_at k (x ∷ xs) w (suc j) = ap (put (k + 1) xs (with_state w k x)) (shift k j) ∙ put_at (k + 1) xs (with_state w k x) j ∙ ap (get_or xs j) (at w k x j)
+    none : (k : ℕ) → k + 0 ≡ k
+    none k = omega arith
+put_at k (x ∷ xs) w (suc j) =
+    ap (put (k + 1) xs (with_state w k x)) (shift k j) ∙ put_at (k + 1) xs (with_state w k x) j
+    ∙ ap (get_or xs j) (with_other w k x (k + 1 + j) (λ e. omega (arith, e)) ∙ ap w (sym (shift k j)))
   where
     shift : (k j : ℕ) → k + suc j ≡ k + 1 + j
     shift k j = omega arith
-
-    at : (w : World) (k x j : ℕ) → with_state w k x (k + 1 + j) ≡ w (k + suc j)
-    at w k x j = grind (arith, nat_tests)
 
 put_is : (xs : List ℕ) → put 0 xs (λ v. 0) ≡ world_of xs
 put_is xs = fun_ext (λ v. ap (put 0 xs (λ v. 0)) (z v) ∙ put_at 0 xs (λ v. 0) v)

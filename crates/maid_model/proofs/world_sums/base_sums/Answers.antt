@@ -104,3 +104,36 @@ worlds-smaller c = omega (arith, ap length (c.if-not-next.ensures.more refl))
 
 pub returns-then-not-next-clause-again : goal.returns-then-not-next-clause-again
 returns-then-not-next-clause-again c = c.if-not-next.ensures.again refl ∙ sym c.requires.first
+
+pub rule_places-places-requires : goal.rule_places-places-requires
+rule_places-places-requires c = c.requires.profile
+
+pub goals_of-marks-requires : goal.goals_of-marks-requires
+goals_of-marks-requires c = c.requires.decision.within
+
+pub states-states-requires : goal.states-states-requires
+states-states-requires c = c.requires.decision.within
+
+pub world_weight-weight-requires-clause-profile : goal.world_weight-weight-requires-clause-profile
+world_weight-weight-requires-clause-profile c = c.requires.profile
+
+pub world_weight-weight-requires-clause-places : goal.world_weight-weight-requires-clause-places
+world_weight-weight-requires-clause-places c = c.rule_places-places.ensures
+
+pub world_weight-weight-requires-clause-world : goal.world_weight-weight-requires-clause-world
+world_weight-weight-requires-clause-world c = c.worlds.invariant.world
+
+pub world_gain-gain-requires-clause-marks : goal.world_gain-gain-requires-clause-marks
+world_gain-gain-requires-clause-marks c = goals_are_utilities _ _ _ c.goals_of-marks.ensures
+
+pub world_gain-gain-requires-clause-world : goal.world_gain-gain-requires-clause-world
+world_gain-gain-requires-clause-world c = c.worlds.invariant.world
+
+pub row-row-requires-clause-node : goal.row-row-requires-clause-node
+row-row-requires-clause-node c = c.requires.decision.within
+
+pub row-row-requires-clause-world : goal.row-row-requires-clause-world
+row-row-requires-clause-world c = c.worlds.invariant.world
+
+pub next-requires : goal.next-requires
+next-requires c = c.worlds.invariant.world
