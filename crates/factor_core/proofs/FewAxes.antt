@@ -1,5 +1,5 @@
 -- Walks whose axes are counted: no axis, one or two, and what a walk over a list says of the walk over an equal one.
-use Rattle.std.proofs.Common.{◌≡◌, ◌==◌, cond, ℕ, ◌+◌, ◌*◌, ◌<◌, ◌≤◌, true, false, List, [], ◌∷◌, length, drop, get_or, refl, sym, ap, subst, ◌∙◌, arith}
+use Rattle.std.proofs.Common.{◌≡◌, ◌≢◌, ◌==◌, cond, ℕ, ◌+◌, ◌*◌, ◌<◌, ◌≤◌, true, false, List, [], ◌∷◌, length, drop, get_or, refl, sym, ap, subst, ◌∙◌, arith}
 use Rattle.std.proofs.lemmas.Bool.{false≢true}
 use Rattle.std.proofs.lemmas.Bool.Decides.{nat_tests}
 use Rattle.std.proofs.lemmas.List.{length-drop}
@@ -34,6 +34,20 @@ pub one_axis : (axes : List Axis) → length axes ≡ 1 → axes ≡ first_of ax
 one_axis [] e = absurd (omega arith)
 one_axis (a ∷ []) e = refl
 one_axis (a ∷ b ∷ axes) e = absurd (omega arith)
+
+-- a list of more than k axes has a first
+pub more_than : (axes : List Axis) (k : ℕ) → k < length axes → 0 < length axes
+more_than axes k h = omega (arith, h)
+
+-- how many axes there are where the fewer have been tried
+pub one_left : (axes : List Axis) → false ≡ (length axes == 0) → length axes < 2 → length axes ≡ 1
+one_left axes some most = omega (arith, some_axis axes some, most)
+
+pub two_left : (axes : List Axis) → false ≡ (length axes == 0) → length axes ≢ 1 → length axes < 3 → length axes ≡ 2
+two_left [] some more most = absurd (false≢true some)
+two_left (a ∷ []) some more most = absurd (more refl)
+two_left (a ∷ b ∷ []) some more most = refl
+two_left (a ∷ b ∷ c ∷ axes) some more most = absurd (omega (arith, most))
 
 -- the second and the third axis of a list
 abbrev pub second_of : List Axis → Axis

@@ -184,6 +184,35 @@ fn is_pair(axis: Axis) -> bool
     axis.states == 2 && axis.out == 0
 }
 
+/// The walk over two axes or fewer.
+fn walk_flat<C: Cell, const N: usize>(
+    axes: &[Axis],
+    strides: &[usize],
+    cells: &[C],
+    places: &[usize; N],
+    out: &mut [C],
+    at: usize,
+)
+    requires most { length axes.now < 3 }
+    requires can { CanWalk C.ring cells.now axes.now strides.now places.now out.old at }
+    ensures { AddsTotal C.ring cells.now axes.now strides.now places.now at out.old out.new }
+{
+    if axes.is_empty() {
+        add_at(out, at, product(cells, places));
+        return;
+    }
+    let axis = axes[0];
+    if axes.len() == 1 {
+        add_line(axis, strides, cells, places, out, at);
+        return;
+    }
+    if is_pair(axes[1]) {
+        add_pairs(axis, axes[1], strides, cells, places, out, at);
+        return;
+    }
+    add_lines(axis, axes[1], strides, cells, places, out, at);
+}
+
 /// Adds to each cell of the result what the walk over the axes leads there.
 fn walk_cells<C: Cell, const N: usize>(
     axes: &[Axis],
@@ -196,23 +225,11 @@ fn walk_cells<C: Cell, const N: usize>(
     requires { CanWalk C.ring cells.now axes.now strides.now places.now out.old at }
     ensures { AddsTotal C.ring cells.now axes.now strides.now places.now at out.old out.new }
 {
-    if axes.is_empty() {
-        add_at(out, at, product(cells, places));
+    if axes.len() < 3 {
+        walk_flat(axes, strides, cells, places, out, at);
         return;
     }
     let axis = axes[0];
-    if axes.len() == 1 {
-        add_line(axis, strides, cells, places, out, at);
-        return;
-    }
-    if axes.len() == 2 && is_pair(axes[1]) {
-        add_pairs(axis, axes[1], strides, cells, places, out, at);
-        return;
-    }
-    if axes.len() == 2 {
-        add_lines(axis, axes[1], strides, cells, places, out, at);
-        return;
-    }
     if axes.len() == 3 && is_pair(axes[2]) {
         add_planes(axis, axes[1], axes[2], strides, cells, places, out, at);
         return;
@@ -254,6 +271,31 @@ fn walk_counted<C: Cell, const N: usize>(
     }
 }
 
+/// The walk over the axes, cell by cell where there are seven operands or more, and still few.
+fn walk_several<C: Cell>(
+    narrow: Narrow,
+    axes: &[Axis],
+    strides: &[usize],
+    cells: &[C],
+    places: &mut [usize],
+    out: &mut [C],
+    at: usize,
+)
+    requires narrow { AreNarrow C.ring C.bits C.narrow cells.now narrow }
+    requires can { CanWalk C.ring cells.now axes.now strides.now places.old out.old at }
+    ensures { AddsTotal C.ring cells.now axes.now strides.now places.old at out.old out.new }
+{
+    match places.len() {
+        7 => walk_counted::<C, 7>(narrow, axes, strides, cells, places, out, at),
+        8 => walk_counted::<C, 8>(narrow, axes, strides, cells, places, out, at),
+        9 => walk_counted::<C, 9>(narrow, axes, strides, cells, places, out, at),
+        10 => walk_counted::<C, 10>(narrow, axes, strides, cells, places, out, at),
+        11 => walk_counted::<C, 11>(narrow, axes, strides, cells, places, out, at),
+        12 => walk_counted::<C, 12>(narrow, axes, strides, cells, places, out, at),
+        _ => walk(narrow, axes, strides, cells, places, out, at),
+    }
+}
+
 /// The walk over the axes, cell by cell where there are few operands.
 fn walk_few<C: Cell>(
     narrow: Narrow,
@@ -275,13 +317,7 @@ fn walk_few<C: Cell>(
         4 => walk_counted::<C, 4>(narrow, axes, strides, cells, places, out, at),
         5 => walk_counted::<C, 5>(narrow, axes, strides, cells, places, out, at),
         6 => walk_counted::<C, 6>(narrow, axes, strides, cells, places, out, at),
-        7 => walk_counted::<C, 7>(narrow, axes, strides, cells, places, out, at),
-        8 => walk_counted::<C, 8>(narrow, axes, strides, cells, places, out, at),
-        9 => walk_counted::<C, 9>(narrow, axes, strides, cells, places, out, at),
-        10 => walk_counted::<C, 10>(narrow, axes, strides, cells, places, out, at),
-        11 => walk_counted::<C, 11>(narrow, axes, strides, cells, places, out, at),
-        12 => walk_counted::<C, 12>(narrow, axes, strides, cells, places, out, at),
-        _ => walk(narrow, axes, strides, cells, places, out, at),
+        _ => walk_several(narrow, axes, strides, cells, places, out, at),
     }
 }
 

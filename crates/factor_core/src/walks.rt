@@ -1,6 +1,6 @@
 //! The walk of joins and products: over axes, from the slowest to a run of cells.
 
-ghost use Rattle.std.specs.Prelude.{◌≡◌, ◌==◌, if◌then◌else◌, ℕ, ◌+◌, ◌*◌, ◌^◌, ◌<◌, ◌≤◌, length, take, drop, [], ◌∷◌, All, ◌↔◌, IsTrue, slice_index};
+ghost use Rattle.std.specs.Prelude.{◌≡◌, ◌==◌, if◌then◌else◌, ℕ, ◌+◌, ◌*◌, ◌^◌, ◌<◌, ◌≤◌, length, take, drop, [], ◌∷◌, All, ◌↔◌, IfSome, IsTrue, slice_index};
 ghost use Rattle.cell_rings.specs.Sums.{cell_at, product_from, product_at, ProductFits, AddsCells, AreWithin, AddsFour, AddsTwo, HasRoomForFour, HasRoomForTwo};
 ghost use Rattle.factor_core.specs.Walks.{shifted, CanWalk, IsRun, IsTurned, MovesAlong, IsDot, IsRunAt, IsSecondRun, CanReadRun, further, AddsTotal, HaveMoved, sum_along, AddsOneAxis, AddsTwoAxes, CanAdvance, CanRetreat, CanWalkTwoAxes, HaveAdvanced, IsInnerMoved, IsWithinSizes, ProductsAlongFit, SumAlongFits};
 ghost use Rattle.factor_core.specs.Narrow.{AreNarrow};
@@ -100,6 +100,21 @@ fn is_turned(axis: Axis, strides: &[usize], count: usize) -> bool
     ensures { IsTrue result ↔ IsTurned axis strides.now count }
 {
     count == 2 && axis.out == 1 && strides[0] == 1 && strides[1] == 0
+}
+
+/// Whether one operand and the result move cell by cell along the axis while the others stand: if so, whether that
+/// operand is the first of two, and not the last.
+fn run_along(axis: Axis, strides: &[usize], count: usize) -> Option<bool>
+    requires { count ≤ length strides.now }
+    ensures { IfSome result (λ turned. MovesAlong turned axis strides.now count) }
+{
+    if is_run(axis, strides, count) {
+        return Some(false);
+    }
+    if is_turned(axis, strides, count) {
+        return Some(true);
+    }
+    None
 }
 
 /// What a walk adds along an axis that one operand and the result move along while the other operands stand: the
@@ -385,12 +400,8 @@ fn add_axis<C: Cell>(
     ensures adds { AddsOneAxis C.ring cells.now axis strides.now places.old at out.old out.new }
     ensures places { places.new ≡ places.old }
 {
-    if is_run(axis, strides, places.len()) {
-        add_moved(false, axis, strides, cells, places, out, at);
-        return;
-    }
-    if is_turned(axis, strides, places.len()) {
-        add_moved(true, axis, strides, cells, places, out, at);
+    if let Some(turned) = run_along(axis, strides, places.len()) {
+        add_moved(turned, axis, strides, cells, places, out, at);
         return;
     }
     let stand = count_standing(strides, places.len());
@@ -399,6 +410,27 @@ fn add_axis<C: Cell>(
         return;
     }
     add_line(axis, strides, cells, places, out, at);
+}
+
+/// The walk over one axis or none.
+fn walk_end<C: Cell>(
+    axes: &[Axis],
+    strides: &[usize],
+    cells: &[C],
+    places: &mut [usize],
+    out: &mut [C],
+    at: usize,
+)
+    requires most { length axes.now < 2 }
+    requires can { CanWalk C.ring cells.now axes.now strides.now places.old out.old at }
+    ensures adds { AddsTotal C.ring cells.now axes.now strides.now places.old at out.old out.new }
+    ensures places { places.new ≡ places.old }
+{
+    if axes.is_empty() {
+        add_at(out, at, product(cells, places));
+    } else {
+        add_axis(axes[0], strides, cells, places, out, at);
+    }
 }
 
 /// Adds to each cell of the result what the walk over the axes leads there.
@@ -416,26 +448,20 @@ pub fn walk<C: Cell>(
     ensures adds { AddsTotal C.ring cells.now axes.now strides.now places.old at out.old out.new }
     ensures places { places.new ≡ places.old }
 {
-    if axes.is_empty() {
-        add_at(out, at, product(cells, places));
+    if axes.len() < 2 {
+        walk_end(axes, strides, cells, places, out, at);
         return;
     }
     let axis = axes[0];
-    if axes.len() == 1 {
-        add_axis(axis, strides, cells, places, out, at);
-        return;
-    }
     let rest = after(axes, 1);
     let below = after(strides, places.len());
-    if axes.len() == 2 && axis.out == 0 && is_run(axes[1], below, places.len()) {
-        add_runs(
-            narrow, false, axis, axes[1], strides, cells, places, out, at,
-        );
-        return;
-    }
-    if axes.len() == 2 && axis.out == 0 && is_turned(axes[1], below, places.len()) {
-        add_runs(narrow, true, axis, axes[1], strides, cells, places, out, at);
-        return;
+    if axes.len() == 2 && axis.out == 0 {
+        if let Some(turned) = run_along(axes[1], below, places.len()) {
+            add_runs(
+                narrow, turned, axis, axes[1], strides, cells, places, out, at,
+            );
+            return;
+        }
     }
     let mut place = at;
     for _ in 0..axis.states {

@@ -2,35 +2,20 @@ use Rattle.std.proofs.Common.{refl}
 use Rattle.factor_core.proofs.Walking.{strides_enough}
 use Rattle.factor_core.proofs.walks.add_axis.Goals as goal
 
-pub is_run-requires : goal.is_run-requires
-is_run-requires g c = strides_enough c.requires
+pub run_along-requires : goal.run_along-requires
+run_along-requires g c = strides_enough c.requires
 
 pub add_moved-requires-clause-moved : goal.add_moved-requires-clause-moved
-add_moved-requires-clause-moved g c = c.if-is_run.ensures refl
+add_moved-requires-clause-moved g c = c.in-Some.ensures
 
 pub add_moved-requires-clause-can : goal.add_moved-requires-clause-can
 add_moved-requires-clause-can g c = c.requires
 
-pub returns-then-is_run-clause-adds : goal.returns-then-is_run-clause-adds
-returns-then-is_run-clause-adds g c = c.add_moved.ensures
+pub returns-in-Some-clause-adds : goal.returns-in-Some-clause-adds
+returns-in-Some-clause-adds g c = c.add_moved.ensures
 
-pub returns-then-is_run-clause-places : goal.returns-then-is_run-clause-places
-returns-then-is_run-clause-places g c = refl
-
-pub is_turned-requires : goal.is_turned-requires
-is_turned-requires g c = strides_enough c.requires
-
-pub add_moved-requires-then-is_turned-clause-moved : goal.add_moved-requires-then-is_turned-clause-moved
-add_moved-requires-then-is_turned-clause-moved g c = c.if-is_turned.ensures.0 refl
-
-pub add_moved-requires-then-is_turned-clause-can : goal.add_moved-requires-then-is_turned-clause-can
-add_moved-requires-then-is_turned-clause-can g c = c.requires
-
-pub returns-then-is_turned-clause-adds : goal.returns-then-is_turned-clause-adds
-returns-then-is_turned-clause-adds g c = c.add_moved-then-is_turned.ensures
-
-pub returns-then-is_turned-clause-places : goal.returns-then-is_turned-clause-places
-returns-then-is_turned-clause-places g c = refl
+pub returns-in-Some-clause-places : goal.returns-in-Some-clause-places
+returns-in-Some-clause-places g c = refl
 
 pub count_standing-stand-requires : goal.count_standing-stand-requires
 count_standing-stand-requires g c = strides_enough c.requires
