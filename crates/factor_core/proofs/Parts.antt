@@ -1,5 +1,5 @@
 -- A list in parts: how many its first items are, and where the cells of its middle part stand.
-use Rattle.std.proofs.Common.{◌≡◌, ◌+◌, ◌-◌, ◌<◌, ◌≤◌, ◌++◌, ℕ, List, length, take, arith, ap, ◌∙◌}
+use Rattle.std.proofs.Common.{◌≡◌, ◌+◌, ◌-◌, ◌<◌, ◌≤◌, ◌++◌, ℕ, List, length, take, arith, sym, ap, ◌∙◌}
 use Rattle.std.proofs.lemmas.List.{length-take-le, get_or_append_left, get_or-append_right}
 use Rattle.cell_rings.specs.Rings.{Ring}
 use Rattle.cell_rings.specs.Sums.{cell_at}
@@ -24,3 +24,7 @@ pub world_between : {C : Type 0} (r : Ring C) (counts : List ℕ) (scope : NodeS
 world_between r counts scope whole middle back {front} start l e long w ok =
     let below : place_of counts scope w < size_of counts scope = place_below (states_in counts) (holds scope) w ok (length counts) 0 in
     cell_between r front middle back start (place_of counts scope w) (count_first start whole l e) (omega (arith, below, long))
+
+-- what was written for the nodes of a list, read with their number
+pub read_as : {X : Type 0} (part : ℕ → List X) (whole : List ℕ → List X) (n : ℕ) (order listed : List ℕ) {result there : List X} → length order ≡ n → order ≡ listed → result ≡ there → there ≡ part n → part (length order) ≡ whole order → result ≡ whole listed
+read_as part whole n order listed many is read stands wrote = read ∙ stands ∙ ap part (sym many) ∙ wrote ∙ ap whole is

@@ -1,10 +1,10 @@
-use Rattle.std.proofs.Common.{◌≡◌, ◌+◌, ◌*◌, length, take, sym, ap, ◌∙◌, arith}
+use Rattle.std.proofs.Common.{◌≡◌, ◌+◌, ◌*◌, length, take, refl, sym, ap, ◌∙◌, arith}
 use Rattle.std.proofs.lemmas.List.{length-take-le}
 use Rattle.node_sets.specs.Sets.{holds}
 use Rattle.factor_core.specs.Scopes.{united}
-use Rattle.factor_core.specs.Tables.{states_in, stride_over, axes_of, stride_rows, stride_row}
+use Rattle.factor_core.specs.Tables.{listed, states_in, stride_over, axes_of, stride_rows, stride_row}
 use Rattle.factor_core.proofs.ProductWalk.{can_begin, multiplies_with}
-use Rattle.factor_core.proofs.Parts.{count_first}
+use Rattle.factor_core.proofs.Parts.{count_first, read_as}
 use Rattle.factor_core.proofs.StrideRows.{listed_cong}
 use Rattle.factor_core.proofs.products.multiply_in.Goals as goal
 
@@ -76,8 +76,9 @@ walk_over-requires-clause-can g c =
     let slots = c.args.slots.now in
     let is = c.before-order.ensures ∙ c.list_nodes-n.ensures.list in
     let many : length c.before-order.result.now ≡ c.list_nodes-n.result = count_first c.list_nodes-n.result c.list_nodes-n.new.order (omega (arith, c.list_nodes-n.ensures.within, c.list_nodes-n.auto.order)) c.before-order.ensures in
-    let axes = c.before-axes.ensures ∙ ap (λ k. take k c.set_axes.new.axes) (sym many) ∙ c.set_axes.ensures ∙ ap (axes_of (states_in counts) (stride_over counts c.args.scope.now)) is in
-    let strides = c.before-strides.ensures ∙ ap (λ k. take (k * length slots) c.set_strides.new.strides) (sym many) ∙ c.set_strides.ensures ∙ ap (stride_rows (stride_row counts slots)) is in
+    let nodes = listed (holds c.args.scope.now) 0 (length counts) in
+    let axes = read_as (λ k. take k c.set_axes.new.axes) (axes_of (states_in counts) (stride_over counts c.args.scope.now)) c.list_nodes-n.result c.before-order.result.now nodes many is c.before-axes.ensures refl c.set_axes.ensures in
+    let strides = read_as (λ k. take (k * length slots) c.set_strides.new.strides) (stride_rows (stride_row counts slots)) c.list_nodes-n.result c.before-order.result.now nodes many is c.before-strides.ensures refl c.set_strides.ensures in
     can_begin m.laws m.sizes c.requires.can axes strides c.set_places.ensures
 
 pub returns : goal.returns
@@ -87,6 +88,7 @@ returns g c =
     let slots = c.args.slots.now in
     let is = c.before-order.ensures ∙ c.list_nodes-n.ensures.list in
     let many : length c.before-order.result.now ≡ c.list_nodes-n.result = count_first c.list_nodes-n.result c.list_nodes-n.new.order (omega (arith, c.list_nodes-n.ensures.within, c.list_nodes-n.auto.order)) c.before-order.ensures in
-    let axes = c.before-axes.ensures ∙ ap (λ k. take k c.set_axes.new.axes) (sym many) ∙ c.set_axes.ensures ∙ ap (axes_of (states_in counts) (stride_over counts c.args.scope.now)) is in
-    let strides = c.before-strides.ensures ∙ ap (λ k. take (k * length slots) c.set_strides.new.strides) (sym many) ∙ c.set_strides.ensures ∙ ap (stride_rows (stride_row counts slots)) is in
+    let nodes = listed (holds c.args.scope.now) 0 (length counts) in
+    let axes = read_as (λ k. take k c.set_axes.new.axes) (axes_of (states_in counts) (stride_over counts c.args.scope.now)) c.list_nodes-n.result c.before-order.result.now nodes many is c.before-axes.ensures refl c.set_axes.ensures in
+    let strides = read_as (λ k. take (k * length slots) c.set_strides.new.strides) (stride_rows (stride_row counts slots)) c.list_nodes-n.result c.before-order.result.now nodes many is c.before-strides.ensures refl c.set_strides.ensures in
     multiplies_with m.laws m.sizes c.requires.can axes strides c.set_places.ensures c.walk_over.ensures

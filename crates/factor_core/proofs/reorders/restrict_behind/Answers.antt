@@ -173,3 +173,43 @@ returns-clause-table g c =
     ∙ ap (cell_at r cells) at_slot
     ∙ ap (λ cs. cell_at r cells (slot.start + place_of cs slot.scope (with_state w x c.args.state))) is
     ∙ cell_of_slot r d.nodes cells slot (with_state w x c.args.state) c.requires.live (with_in (states_of d.nodes) w x c.args.state i c.requires.state))
+
+pub copy_at-requires-clause-start : goal.copy_at-requires-clause-start
+copy_at-requires-clause-start g c = c.requires.used
+
+pub first_of_state-from-requires-clause-node : goal.first_of_state-from-requires-clause-node
+first_of_state-from-requires-clause-node g c = 
+    let d = c.args.diagram.now in
+    let is : c.state_counts-counts.result.now ≡ counts_of d.nodes = c.state_counts-counts.ensures.counts in
+    omega (arith, c.requires.live.known c.args.node c.requires.hold, ap length is, counts_length d.nodes)
+
+pub first_of_state-from-requires-clause-start : goal.first_of_state-from-requires-clause-start
+first_of_state-from-requires-clause-start g c = 
+    let d = c.args.diagram.now in
+    let is : c.state_counts-counts.result.now ≡ counts_of d.nodes = c.state_counts-counts.ensures.counts in
+    let live = lies_in g.C.Cell.ring d.nodes (take c.args.used c.args.all.now) c.args.slot.now c.requires.live in
+    let long = length-take-le c.args.used c.args.all.now c.requires.used in
+    omega (arith, live.within, long, c.requires.used, c.requires.short)
+
+pub first_of_state-from-requires-clause-state : goal.first_of_state-from-requires-clause-state
+first_of_state-from-requires-clause-state g c = 
+    let d = c.args.diagram.now in
+    let is : c.state_counts-counts.result.now ≡ counts_of d.nodes = c.state_counts-counts.ensures.counts in
+    let are = subst AreCounts (sym is) (are_counts d c.state_counts-counts.ensures.diagram) in
+    let state_in : c.args.state < states_in c.state_counts-counts.result.now c.args.node = subst (λ k. c.args.state < k) (ap (λ f. f c.args.node) (sym (states_is d.nodes)) ∙ ap (λ cs. states_in cs c.args.node) (sym is)) c.requires.state in
+    omega (arith, state_in, are.small c.args.node)
+
+pub list_nodes-n-requires-clause-few : goal.list_nodes-n-requires-clause-few
+list_nodes-n-requires-clause-few g c = 
+    let d = c.args.diagram.now in
+    let is : c.state_counts-counts.result.now ≡ counts_of d.nodes = c.state_counts-counts.ensures.counts in
+    (subst AreCounts (sym is) (are_counts d c.state_counts-counts.ensures.diagram)).few
+
+pub without-scope-requires : goal.without-scope-requires
+without-scope-requires g c = 
+    let d = c.args.diagram.now in
+    let is : c.state_counts-counts.result.now ≡ counts_of d.nodes = c.state_counts-counts.ensures.counts in
+    omega (arith, c.requires.live.known c.args.node c.requires.hold, c.state_counts-counts.ensures.diagram.limits.nodes)
+
+pub returns-clause-start : goal.returns-clause-start
+returns-clause-start g c = refl

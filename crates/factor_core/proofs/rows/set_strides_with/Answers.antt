@@ -1,5 +1,6 @@
-use Rattle.std.proofs.Common.{◌≡◌, ℕ, ◌+◌, ◌<◌, ◌≤◌, length, get_or, refl, sym, subst, arith, inl, inr}
+use Rattle.std.proofs.Common.{◌≡◌, ℕ, ◌+◌, ◌*◌, ◌<◌, ◌≤◌, length, get_or, refl, sym, subst, arith, inl, inr}
 use Rattle.std.proofs.lemmas.Bool.{cases_lt}
+use Rattle.std.proofs.Math.Nat.{mul-le-mul_right}
 use Rattle.factor_core.specs.Rows.{HasStrideRow, row_beside}
 use Rattle.factor_core.proofs.StrideRows.{kept_below, rows_with, beside_apart, beside_once, kept_is_not, but_one}
 use Rattle.factor_core.proofs.rows.set_strides_with.Goals as goal
@@ -29,3 +30,65 @@ set_rows-requires-clause-kept c = but_one c.args.counts.now c.args.slots.now c.a
 
 pub set_rows-requires-2-clause-kept : goal.set_rows-requires-2-clause-kept
 set_rows-requires-2-clause-kept c = but_one c.args.counts.now c.args.slots.now c.args.node c.args.kept.now c.requires.kept 0 c.args.node (inl (omega arith))
+
+pub set_ones-requires : goal.set_ones-requires
+set_ones-requires c = c.requires.sizes
+
+pub overflow_add-node : goal.overflow_add-node
+overflow_add-node c = omega (arith, c.requires.node, c.requires.counts.few)
+
+pub set_rows-requires-clause-counts : goal.set_rows-requires-clause-counts
+set_rows-requires-clause-counts c = c.requires.counts
+
+pub set_rows-requires-clause-fits : goal.set_rows-requires-clause-fits
+set_rows-requires-clause-fits c = c.requires.fits
+
+pub set_row-requires-clause-counts : goal.set_row-requires-clause-counts
+set_row-requires-clause-counts c = c.requires.counts
+
+pub set_row-requires-clause-fits : goal.set_row-requires-clause-fits
+set_row-requires-clause-fits c = c.requires.fits
+
+pub set_rows-requires-2-clause-counts : goal.set_rows-requires-2-clause-counts
+set_rows-requires-2-clause-counts c = c.requires.counts
+
+pub set_rows-requires-2-clause-fits : goal.set_rows-requires-2-clause-fits
+set_rows-requires-2-clause-fits c = c.requires.fits
+
+pub set_rows-requires-clause-behind : goal.set_rows-requires-clause-behind
+set_rows-requires-clause-behind c = c.set_ones.ensures
+
+pub set_rows-requires-clause-range : goal.set_rows-requires-clause-range
+set_rows-requires-clause-range c = (omega (arith, c.requires.node), omega arith)
+
+pub set_rows-requires-clause-room : goal.set_rows-requires-clause-room
+set_rows-requires-clause-room c = c.requires.room
+
+pub set_rows-requires-clause-sizes : goal.set_rows-requires-clause-sizes
+set_rows-requires-clause-sizes c = omega (arith, c.requires.sizes, c.set_ones.auto.sizes)
+
+pub set_row-requires-clause-behind : goal.set_row-requires-clause-behind
+set_row-requires-clause-behind c = c.set_rows.ensures.sizes
+
+pub set_row-requires-clause-node : goal.set_row-requires-clause-node
+set_row-requires-clause-node c = c.requires.node
+
+pub set_row-requires-clause-room : goal.set_row-requires-clause-room
+set_row-requires-clause-room c =
+    let more : (c.args.at + 1) * length c.args.slots.now ≤ (length c.args.kept.now + 1) * length c.args.slots.now = mul-le-mul_right (length c.args.slots.now) (omega (arith, c.requires.at)) in
+    omega (arith, more, c.requires.room, c.set_rows.auto.strides)
+
+pub set_row-requires-clause-sizes : goal.set_row-requires-clause-sizes
+set_row-requires-clause-sizes c = omega (arith, c.requires.sizes, c.set_ones.auto.sizes, c.set_rows.auto.sizes)
+
+pub set_rows-requires-2-clause-behind : goal.set_rows-requires-2-clause-behind
+set_rows-requires-2-clause-behind c = c.set_row.ensures.sizes
+
+pub set_rows-requires-2-clause-range : goal.set_rows-requires-2-clause-range
+set_rows-requires-2-clause-range c = (omega arith, omega (arith, c.requires.node))
+
+pub set_rows-requires-2-clause-room : goal.set_rows-requires-2-clause-room
+set_rows-requires-2-clause-room c = omega (arith, c.requires.room, c.set_rows.auto.strides, c.set_row.auto.strides)
+
+pub set_rows-requires-2-clause-sizes : goal.set_rows-requires-2-clause-sizes
+set_rows-requires-2-clause-sizes c = omega (arith, c.requires.sizes, c.set_ones.auto.sizes, c.set_rows.auto.sizes, c.set_row.auto.sizes)
