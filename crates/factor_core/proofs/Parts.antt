@@ -26,5 +26,9 @@ world_between r counts scope whole middle back {front} start l e long w ok =
     cell_between r front middle back start (place_of counts scope w) (count_first start whole l e) (omega (arith, below, long))
 
 -- what was written for the nodes of a list, read with their number
-pub read_as : {X : Type 0} (part : ℕ → List X) (whole : List ℕ → List X) (n : ℕ) (order listed : List ℕ) {result there : List X} → length order ≡ n → order ≡ listed → result ≡ there → there ≡ part n → part (length order) ≡ whole order → result ≡ whole listed
-read_as part whole n order listed many is read stands wrote = read ∙ stands ∙ ap part (sym many) ∙ wrote ∙ ap whole is
+pub read_as : {X : Type 0} (part : ℕ → List X) (whole : List ℕ → List X) (n : ℕ) (order listed : List ℕ) {result : List X} → length order ≡ n → order ≡ listed → result ≡ part n → part (length order) ≡ whole order → result ≡ whole listed
+read_as part whole n order listed many is read wrote = read ∙ ap part (sym many) ∙ wrote ∙ ap whole is
+
+-- the same where it was changed before it was read
+pub read_changed : {X : Type 0} (change : List X → List X) (part : ℕ → List X) (whole : List ℕ → List X) (n : ℕ) (order listed : List ℕ) {result there : List X} → length order ≡ n → order ≡ listed → result ≡ there → there ≡ change (part n) → part (length order) ≡ whole order → result ≡ change (whole listed)
+read_changed change part whole n order listed many is read changed wrote = read ∙ changed ∙ ap change (ap part (sym many) ∙ wrote ∙ ap whole is)

@@ -61,3 +61,27 @@ returns-clause-table g c = λ p.
     (subst (λ xs. AppendsTable r d.nodes before after c.write_table.result (list_table r d.nodes xs cells)) list
     (subst (λ zs. AppendsTable r d.nodes before after c.write_table.result (list_table r d.nodes c.before-2.result.now (map (λ z. g.C.Cell.of_weight (nat_abs z)) zs))) c.cells.ensures.cells c.write_table.ensures.table))
     (chance_same d c.parents.ensures.diagram c.args.v c.requires.node k p c.requires.kind)
+
+pub write_table-requires-clause-counts : goal.write_table-requires-clause-counts
+write_table-requires-clause-counts g c = c.requires.counts
+
+pub write_table-requires-clause-diagram : goal.write_table-requires-clause-diagram
+write_table-requires-clause-diagram g c = c.parents.ensures.diagram
+
+pub write_table-requires-clause-short : goal.write_table-requires-clause-short
+write_table-requires-clause-short g c = c.requires.short
+
+pub write_table-requires-clause-used : goal.write_table-requires-clause-used
+write_table-requires-clause-used g c = c.requires.used
+
+pub returns-clause-len : goal.returns-clause-len
+returns-clause-len g c = c.write_table.ensures.len
+
+pub returns-clause-start : goal.returns-clause-start
+returns-clause-start g c = c.write_table.ensures.start
+
+pub parents-requires : goal.parents-requires
+parents-requires g c = c.requires.node
+
+pub cells-requires : goal.cells-requires
+cells-requires g c = c.requires.node

@@ -1,4 +1,4 @@
-use Rattle.std.proofs.Common.{◌∙◌, ◌+◌, length, map, sym, ap, subst, arith}
+use Rattle.std.proofs.Common.{◌∙◌, ◌+◌, ◌*◌, ◌≤◌, All, nat_abs, length, map, sym, ap, subst, arith}
 use Rattle.std.proofs.lemmas.List.{length-map}
 use Rattle.maid_model.specs.Nodes.{node_at, parents_of, states_of, rows_under}
 use Rattle.plan_sums.specs.Plans.{utility_table}
@@ -34,3 +34,30 @@ write_table-requires-clause-cells g c =
     ∙ ap length c.cells.ensures.cells
     ∙ c.parents.ensures.diagram.values.utility c.args.v c.requires.node c.requires.kind
     ∙ ap (rows_under (states_of c.args.diagram.now.nodes)) (sym c.parents.ensures.parents)
+
+pub write_table-requires-clause-counts : goal.write_table-requires-clause-counts
+write_table-requires-clause-counts g c = c.requires.counts
+
+pub write_table-requires-clause-diagram : goal.write_table-requires-clause-diagram
+write_table-requires-clause-diagram g c = c.parents.ensures.diagram
+
+pub write_table-requires-clause-short : goal.write_table-requires-clause-short
+write_table-requires-clause-short g c = c.requires.short
+
+pub write_table-requires-clause-used : goal.write_table-requires-clause-used
+write_table-requires-clause-used g c = c.requires.used
+
+pub returns-clause-len : goal.returns-clause-len
+returns-clause-len g c = c.write_table.ensures.len
+
+pub returns-clause-start : goal.returns-clause-start
+returns-clause-start g c = c.write_table.ensures.start
+
+pub parents-requires : goal.parents-requires
+parents-requires g c = c.requires.node
+
+pub cells-requires : goal.cells-requires
+cells-requires g c = c.requires.node
+
+pub write_table-requires-clause-fit : goal.write_table-requires-clause-fit
+write_table-requires-clause-fit g c = subst (All (λ z. 2 * nat_abs z ≤ g.C.Cell.ring.most)) (sym c.cells.ensures.cells) c.requires.fit

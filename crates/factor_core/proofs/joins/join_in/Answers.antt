@@ -1,11 +1,11 @@
-use Rattle.std.proofs.Common.{List, ◌≡◌, ◌+◌, ◌*◌, length, take, get_or, refl, sym, ap, ◌∙◌, arith}
+use Rattle.std.proofs.Common.{List, ◌≡◌, ◌+◌, ◌*◌, length, take, get_or, sym, ap, ◌∙◌, arith}
 use Rattle.std.proofs.lemmas.List.{length-take-le, get_or_default}
 use Rattle.node_sets.specs.Sets.{holds}
 use Rattle.factor_core.specs.declared.walks.Axis.{Axis}
 use Rattle.factor_core.specs.Scopes.{united_but}
 use Rattle.factor_core.specs.Tables.{listed, states_in, stride_over, axes_of, stride_rows, stride_row, with_extra}
 use Rattle.factor_core.proofs.JoinWalk.{axes_in_order, can_begin, joins_with}
-use Rattle.factor_core.proofs.Parts.{count_first, read_as}
+use Rattle.factor_core.proofs.Parts.{count_first, read_as, read_changed}
 use Rattle.factor_core.proofs.StrideRows.{listed_cong}
 use Rattle.factor_core.proofs.joins.join_in.Goals as goal
 
@@ -117,9 +117,9 @@ walk_over-requires-clause-can g c =
     let many : length c.before-order.result.now ≡ c.list_nodes-kept.result = count_first c.list_nodes-kept.result c.list_nodes-kept.new.order (omega (arith, c.list_nodes-kept.ensures.within)) c.before-order.ensures in
     let nodes = listed (holds c.args.scope.now) 0 (length counts) in
     let extra : List Axis → List Axis = with_extra at (record { states = get_or counts c.args.node 0; out = 0 }) in
-    let read = read_as (λ k. extra (take k c.set_axes.new.axes)) (λ l. extra (axes_of (states_in counts) (stride_over counts c.args.scope.now) l)) c.list_nodes-kept.result c.before-order.result.now nodes many is c.before-axes.ensures c.insert_axis.ensures (ap extra c.set_axes.ensures) in
+    let read = read_changed extra (λ k. take k c.set_axes.new.axes) (axes_of (states_in counts) (stride_over counts c.args.scope.now)) c.list_nodes-kept.result c.before-order.result.now nodes many is c.before-axes.ensures c.insert_axis.ensures c.set_axes.ensures in
     let axes = axes_in_order m.laws m.sizes c.requires.can c.summed_place-at.result c.before-axes.result.now (get_or counts c.args.node 0) (get_or_default counts c.args.node 0 1 c.requires.can.node) read in
-    let strides = read_as (λ k. take ((k + 1) * length slots) c.set_strides_with.new.strides) (λ l. stride_rows (stride_row counts slots) (with_extra at c.args.node l)) c.list_nodes-kept.result c.before-order.result.now nodes many is c.before-strides.ensures refl c.set_strides_with.ensures in
+    let strides = read_as (λ k. take ((k + 1) * length slots) c.set_strides_with.new.strides) (λ l. stride_rows (stride_row counts slots) (with_extra at c.args.node l)) c.list_nodes-kept.result c.before-order.result.now nodes many is c.before-strides.ensures c.set_strides_with.ensures in
     can_begin m.laws m.sizes c.requires.can c.summed_place-at.result axes strides c.set_places.ensures
 
 pub returns : goal.returns
@@ -132,7 +132,7 @@ returns g c =
     let many : length c.before-order.result.now ≡ c.list_nodes-kept.result = count_first c.list_nodes-kept.result c.list_nodes-kept.new.order (omega (arith, c.list_nodes-kept.ensures.within)) c.before-order.ensures in
     let nodes = listed (holds c.args.scope.now) 0 (length counts) in
     let extra : List Axis → List Axis = with_extra at (record { states = get_or counts c.args.node 0; out = 0 }) in
-    let read = read_as (λ k. extra (take k c.set_axes.new.axes)) (λ l. extra (axes_of (states_in counts) (stride_over counts c.args.scope.now) l)) c.list_nodes-kept.result c.before-order.result.now nodes many is c.before-axes.ensures c.insert_axis.ensures (ap extra c.set_axes.ensures) in
+    let read = read_changed extra (λ k. take k c.set_axes.new.axes) (axes_of (states_in counts) (stride_over counts c.args.scope.now)) c.list_nodes-kept.result c.before-order.result.now nodes many is c.before-axes.ensures c.insert_axis.ensures c.set_axes.ensures in
     let axes = axes_in_order m.laws m.sizes c.requires.can c.summed_place-at.result c.before-axes.result.now (get_or counts c.args.node 0) (get_or_default counts c.args.node 0 1 c.requires.can.node) read in
-    let strides = read_as (λ k. take ((k + 1) * length slots) c.set_strides_with.new.strides) (λ l. stride_rows (stride_row counts slots) (with_extra at c.args.node l)) c.list_nodes-kept.result c.before-order.result.now nodes many is c.before-strides.ensures refl c.set_strides_with.ensures in
+    let strides = read_as (λ k. take ((k + 1) * length slots) c.set_strides_with.new.strides) (λ l. stride_rows (stride_row counts slots) (with_extra at c.args.node l)) c.list_nodes-kept.result c.before-order.result.now nodes many is c.before-strides.ensures c.set_strides_with.ensures in
     joins_with m.laws m.sizes c.requires.can c.summed_place-at.result axes strides c.set_places.ensures c.walk_over.ensures

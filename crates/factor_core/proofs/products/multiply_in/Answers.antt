@@ -1,4 +1,4 @@
-use Rattle.std.proofs.Common.{◌≡◌, ◌+◌, ◌*◌, length, take, refl, sym, ap, ◌∙◌, arith}
+use Rattle.std.proofs.Common.{◌≡◌, ◌+◌, ◌*◌, length, take, sym, ap, ◌∙◌, arith}
 use Rattle.std.proofs.lemmas.List.{length-take-le}
 use Rattle.node_sets.specs.Sets.{holds}
 use Rattle.factor_core.specs.Scopes.{united}
@@ -77,8 +77,8 @@ walk_over-requires-clause-can g c =
     let is = c.before-order.ensures ∙ c.list_nodes-n.ensures.list in
     let many : length c.before-order.result.now ≡ c.list_nodes-n.result = count_first c.list_nodes-n.result c.list_nodes-n.new.order (omega (arith, c.list_nodes-n.ensures.within, c.list_nodes-n.auto.order)) c.before-order.ensures in
     let nodes = listed (holds c.args.scope.now) 0 (length counts) in
-    let axes = read_as (λ k. take k c.set_axes.new.axes) (axes_of (states_in counts) (stride_over counts c.args.scope.now)) c.list_nodes-n.result c.before-order.result.now nodes many is c.before-axes.ensures refl c.set_axes.ensures in
-    let strides = read_as (λ k. take (k * length slots) c.set_strides.new.strides) (stride_rows (stride_row counts slots)) c.list_nodes-n.result c.before-order.result.now nodes many is c.before-strides.ensures refl c.set_strides.ensures in
+    let axes = read_as (λ k. take k c.set_axes.new.axes) (axes_of (states_in counts) (stride_over counts c.args.scope.now)) c.list_nodes-n.result c.before-order.result.now nodes many is c.before-axes.ensures c.set_axes.ensures in
+    let strides = read_as (λ k. take (k * length slots) c.set_strides.new.strides) (stride_rows (stride_row counts slots)) c.list_nodes-n.result c.before-order.result.now nodes many is c.before-strides.ensures c.set_strides.ensures in
     can_begin m.laws m.sizes c.requires.can axes strides c.set_places.ensures
 
 pub returns : goal.returns
@@ -89,6 +89,6 @@ returns g c =
     let is = c.before-order.ensures ∙ c.list_nodes-n.ensures.list in
     let many : length c.before-order.result.now ≡ c.list_nodes-n.result = count_first c.list_nodes-n.result c.list_nodes-n.new.order (omega (arith, c.list_nodes-n.ensures.within, c.list_nodes-n.auto.order)) c.before-order.ensures in
     let nodes = listed (holds c.args.scope.now) 0 (length counts) in
-    let axes = read_as (λ k. take k c.set_axes.new.axes) (axes_of (states_in counts) (stride_over counts c.args.scope.now)) c.list_nodes-n.result c.before-order.result.now nodes many is c.before-axes.ensures refl c.set_axes.ensures in
-    let strides = read_as (λ k. take (k * length slots) c.set_strides.new.strides) (stride_rows (stride_row counts slots)) c.list_nodes-n.result c.before-order.result.now nodes many is c.before-strides.ensures refl c.set_strides.ensures in
+    let axes = read_as (λ k. take k c.set_axes.new.axes) (axes_of (states_in counts) (stride_over counts c.args.scope.now)) c.list_nodes-n.result c.before-order.result.now nodes many is c.before-axes.ensures c.set_axes.ensures in
+    let strides = read_as (λ k. take (k * length slots) c.set_strides.new.strides) (stride_rows (stride_row counts slots)) c.list_nodes-n.result c.before-order.result.now nodes many is c.before-strides.ensures c.set_strides.ensures in
     multiplies_with m.laws m.sizes c.requires.can axes strides c.set_places.ensures c.walk_over.ensures

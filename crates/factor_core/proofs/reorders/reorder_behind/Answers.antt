@@ -1,5 +1,5 @@
 -- The copy goes over the nodes in the order named, and their strides add up to the place in the slot in any order.
-use Rattle.std.proofs.Common.{rules, ◌≡◌, ◌∙◌, ◌+◌, ◌-◌, ◌^◌, ◌<◌, ◌≤◌, ◌++◌, length, take, sym, ap, subst, arith}
+use Rattle.std.proofs.Common.{rules, ◌≡◌, ◌∙◌, ◌+◌, ◌-◌, ◌^◌, ◌<◌, ◌≤◌, ◌++◌, length, take, refl, sym, ap, subst, arith}
 use Rattle.std.proofs.lemmas.List.{length-take-le}
 use Rattle.finite_sums.specs.Sums.{InRange}
 use Rattle.maid_model.specs.Nodes.{states_of, counts_of, rows_under}
@@ -120,3 +120,18 @@ returns-clause-moves g c =
       };
       stays = stays r d.nodes all new used slot.len same fits kept;
     }
+
+pub copy_at-requires-clause-start : goal.copy_at-requires-clause-start
+copy_at-requires-clause-start g c = c.requires.used
+
+pub returns-clause-len : goal.returns-clause-len
+returns-clause-len g c = omega (arith, c.copy_at.auto.all, c.requires.room, c.requires.used)
+
+pub returns-clause-same : goal.returns-clause-same
+returns-clause-same g c = refl
+
+pub returns-clause-start : goal.returns-clause-start
+returns-clause-start g c = refl
+
+pub state_counts-counts-requires : goal.state_counts-counts-requires
+state_counts-counts-requires g c = tt

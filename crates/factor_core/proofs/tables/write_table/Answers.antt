@@ -1,5 +1,5 @@
 -- The cells of the source stand along the steps over the nodes in ascending order, with the strides of the list.
-use Rattle.std.proofs.Common.{rules, ◌≡◌, ◌∙◌, ◌+◌, ◌-◌, ◌<◌, ◌≤◌, ◌++◌, length, take, sym, ap, subst, arith, All}
+use Rattle.std.proofs.Common.{rules, ◌≡◌, ◌∙◌, ◌+◌, ◌-◌, ◌<◌, ◌≤◌, ◌++◌, length, take, sym, ap, subst, arith, All, refl}
 use Rattle.std.proofs.Math.Path.{fun_ext}
 use Rattle.finite_sums.specs.Sums.{InRange}
 use Rattle.maid_model.specs.Nodes.{states_of, counts_of, rows_under}
@@ -182,3 +182,12 @@ returns-clause-table g c =
 
 pub list_nodes-n-requires-clause-few : goal.list_nodes-n-requires-clause-few
 list_nodes-n-requires-clause-few g c = omega (arith, ap length c.requires.counts, counts_length c.args.diagram.now.nodes, c.requires.diagram.limits.nodes)
+
+pub copy_listed-requires-clause-fit : goal.copy_listed-requires-clause-fit
+copy_listed-requires-clause-fit g c = c.requires.fit
+
+pub copy_listed-requires-clause-once : goal.copy_listed-requires-clause-once
+copy_listed-requires-clause-once g c = c.requires.once
+
+pub returns-clause-start : goal.returns-clause-start
+returns-clause-start g c = refl
