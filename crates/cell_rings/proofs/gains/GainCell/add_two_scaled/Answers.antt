@@ -19,3 +19,21 @@ pub overflow_cast-short-then-is_short-2 : goal.overflow_cast-short-then-is_short
 overflow_cast-short-then-is_short-2 c =
     let f : FitsSigned w128 c.args.pair.now.second.0 = search rules in
     rw (to_z-of_z w128 c.args.pair.now.second.0 f) (short_fits c.args.pair.now.second.0 (c.if-is_short-2.ensures.0 refl))
+
+pub add_two_long-requires-clause-cells : goal.add_two_long-requires-clause-cells
+add_two_long-requires-clause-cells c = c.requires.cells
+
+pub add_two_long-requires-clause-out : goal.add_two_long-requires-clause-out
+add_two_long-requires-clause-out c = c.requires.out
+
+pub add_two_long-requires-clause-room : goal.add_two_long-requires-clause-room
+add_two_long-requires-clause-room c = c.requires.room
+
+pub add_two_short-requires-clause-cells : goal.add_two_short-requires-clause-cells
+add_two_short-requires-clause-cells c = c.requires.cells
+
+pub add_two_short-requires-clause-out : goal.add_two_short-requires-clause-out
+add_two_short-requires-clause-out c = c.requires.out
+
+pub returns-else-is_short : goal.returns-else-is_short
+returns-else-is_short c = c.add_two_long.ensures
