@@ -32,3 +32,12 @@ loop-i-preserved c =
       search rules,
       two_step (cells_are_factors small_gain_laws small_gain_sizes) c.args.at c.args.cells.now c.args.pair c.loop-i.i (omega (arith, c.requires.out, c.loop-i.invariant.0)) (sum_is small_gain_kind c.add.ensures refl both) c.loop-i.invariant.1,
     )
+
+pub bounds-cells-pair : goal.bounds-cells-pair
+bounds-cells-pair c = omega (arith, c.requires.cells.0, c.loop-i-test.true)
+
+pub bounds-cells-pair-in-loop-i : goal.bounds-cells-pair-in-loop-i
+bounds-cells-pair-in-loop-i c = omega (arith, c.requires.cells.1, c.loop-i-test.true)
+
+pub bounds-out-at : goal.bounds-out-at
+bounds-out-at c = omega (arith, c.requires.out, c.loop-i-test.true, c.loop-i.invariant.0)
