@@ -1,5 +1,6 @@
 -- A list in parts: how many its first items are, and where the cells of its middle part stand.
-use Rattle.std.proofs.Common.{◌≡◌, ◌+◌, ◌-◌, ◌<◌, ◌≤◌, ◌++◌, ℕ, List, length, take, arith, sym, ap, ◌∙◌}
+use Rattle.std.proofs.Common.{◌≡◌, ◌+◌, ◌-◌, ◌<◌, ◌≤◌, ◌++◌, ℕ, List, length, take, arith, sym, ap, ◌∙◌, ◌*◌}
+use Rattle.std.proofs.Math.Nat.{mul-le-mul_right}
 use Rattle.std.proofs.lemmas.List.{length-take-le, get_or_append_left, get_or-append_right}
 use Rattle.cell_rings.specs.Rings.{Ring}
 use Rattle.cell_rings.specs.Sums.{cell_at}
@@ -32,3 +33,9 @@ read_as part whole n order listed many is read wrote = read ∙ ap part (sym man
 -- the same where it was changed before it was read
 pub read_changed : {X : Type 0} (change : List X → List X) (part : ℕ → List X) (whole : List ℕ → List X) (n : ℕ) (order listed : List ℕ) {result there : List X} → length order ≡ n → order ≡ listed → result ≡ there → there ≡ change (part n) → part (length order) ≡ whole order → result ≡ change (whole listed)
 read_changed change part whole n order listed many is read changed wrote = read ∙ changed ∙ ap change (ap part (sym many) ∙ wrote ∙ ap whole is)
+
+-- the strides of the widest walk
+pub widest : (n slots : ℕ) → slots ≤ 256 → n ≤ 256 → (n + 1) * slots ≤ 65792
+widest n slots few nodes =
+    let step : (n + 1) * slots ≤ 257 * slots = mul-le-mul_right slots (omega (arith, nodes)) in
+    omega (arith, step, few)

@@ -1,4 +1,4 @@
-use Rattle.std.proofs.Common.{◌∙◌, ◌+◌, ◌<◌, ◌++◌, [], ◌∷◌, map, length, sym, ap, subst, arith, Contains, ℕ}
+use Rattle.std.proofs.Common.{◌*◌, ◌≤◌, All, ◌∙◌, ◌+◌, ◌<◌, ◌++◌, [], ◌∷◌, map, length, sym, ap, subst, arith, Contains, ℕ}
 use Rattle.std.proofs.lemmas.List.{length-map}
 use Rattle.maid_model.specs.Graph.{AllDifferent}
 use Rattle.maid_model.specs.Nodes.{states_of, rows_under}
@@ -61,3 +61,27 @@ returns-clause-table g c =
     (subst (λ xs. AppendsTable r d.nodes before after c.write_table.result (list_table r d.nodes xs cells)) list
     (subst (λ zs. AppendsTable r d.nodes before after c.write_table.result (list_table r d.nodes c.before-2.result.now (map g.C.Cell.of_weight zs))) weights c.write_table.ensures.table))
     (rule_same d is c.args.v c.requires.node.within k p c.requires.node.kind (rule_length d is c.args.v c.requires.node.within p c.requires.profile c.requires.node))
+
+pub write_table-requires-clause-counts : goal.write_table-requires-clause-counts
+write_table-requires-clause-counts g c = c.requires.counts
+
+pub write_table-requires-clause-diagram : goal.write_table-requires-clause-diagram
+write_table-requires-clause-diagram g c = c.parents.ensures.diagram
+
+pub write_table-requires-clause-short : goal.write_table-requires-clause-short
+write_table-requires-clause-short g c = c.requires.short
+
+pub write_table-requires-clause-used : goal.write_table-requires-clause-used
+write_table-requires-clause-used g c = c.requires.used
+
+pub returns-clause-len : goal.returns-clause-len
+returns-clause-len g c = c.write_table.ensures.len
+
+pub returns-clause-start : goal.returns-clause-start
+returns-clause-start g c = c.write_table.ensures.start
+
+pub parents-requires : goal.parents-requires
+parents-requires g c = c.requires.node.within
+
+pub write_table-requires-clause-fit : goal.write_table-requires-clause-fit
+write_table-requires-clause-fit g c = subst (All (λ w. 2 * w ≤ g.C.Cell.ring.most)) (sym c.rule_weights.ensures) c.requires.fit

@@ -178,13 +178,13 @@ pub copy_at-requires-clause-start : goal.copy_at-requires-clause-start
 copy_at-requires-clause-start g c = c.requires.used
 
 pub first_of_state-from-requires-clause-node : goal.first_of_state-from-requires-clause-node
-first_of_state-from-requires-clause-node g c = 
+first_of_state-from-requires-clause-node g c =
     let d = c.args.diagram.now in
     let is : c.state_counts-counts.result.now ≡ counts_of d.nodes = c.state_counts-counts.ensures.counts in
     omega (arith, c.requires.live.known c.args.node c.requires.hold, ap length is, counts_length d.nodes)
 
 pub first_of_state-from-requires-clause-start : goal.first_of_state-from-requires-clause-start
-first_of_state-from-requires-clause-start g c = 
+first_of_state-from-requires-clause-start g c =
     let d = c.args.diagram.now in
     let is : c.state_counts-counts.result.now ≡ counts_of d.nodes = c.state_counts-counts.ensures.counts in
     let live = lies_in g.C.Cell.ring d.nodes (take c.args.used c.args.all.now) c.args.slot.now c.requires.live in
@@ -192,7 +192,7 @@ first_of_state-from-requires-clause-start g c =
     omega (arith, live.within, long, c.requires.used, c.requires.short)
 
 pub first_of_state-from-requires-clause-state : goal.first_of_state-from-requires-clause-state
-first_of_state-from-requires-clause-state g c = 
+first_of_state-from-requires-clause-state g c =
     let d = c.args.diagram.now in
     let is : c.state_counts-counts.result.now ≡ counts_of d.nodes = c.state_counts-counts.ensures.counts in
     let are = subst AreCounts (sym is) (are_counts d c.state_counts-counts.ensures.diagram) in
@@ -200,13 +200,13 @@ first_of_state-from-requires-clause-state g c =
     omega (arith, state_in, are.small c.args.node)
 
 pub list_nodes-n-requires-clause-few : goal.list_nodes-n-requires-clause-few
-list_nodes-n-requires-clause-few g c = 
+list_nodes-n-requires-clause-few g c =
     let d = c.args.diagram.now in
     let is : c.state_counts-counts.result.now ≡ counts_of d.nodes = c.state_counts-counts.ensures.counts in
     (subst AreCounts (sym is) (are_counts d c.state_counts-counts.ensures.diagram)).few
 
 pub without-scope-requires : goal.without-scope-requires
-without-scope-requires g c = 
+without-scope-requires g c =
     let d = c.args.diagram.now in
     let is : c.state_counts-counts.result.now ≡ counts_of d.nodes = c.state_counts-counts.ensures.counts in
     omega (arith, c.requires.live.known c.args.node c.requires.hold, c.state_counts-counts.ensures.diagram.limits.nodes)
