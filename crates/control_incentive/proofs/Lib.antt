@@ -1,3 +1,4 @@
 pub mod Deciding
 pub mod Told
 pub mod Walked
+pub mod Restoring

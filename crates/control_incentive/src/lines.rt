@@ -13,7 +13,7 @@ ghost use Rattle.control_incentive.specs.Steps.{AreChanceNodes, AreControlLinesO
 
 use crate::finding::find;
 use crate::paths::Paths;
-use diagram_graph::fix_others;
+use diagram_graph::{copy_diagram, fix_others};
 use maid_model::{Diagram, Kind, Solved};
 use node_sets::NodeSet;
 use optimum_gap::{Baseline, Found, answers_are_baselines};
@@ -73,29 +73,32 @@ fn keep_for(
     }
 }
 
-/// The line of a chance node.
+/// The line of a chance node. The copy is of the baseline's diagram, and stays so.
 fn control_line(
     alloc: Global,
     baseline: &Baseline,
+    copy: &mut Diagram,
     kept: Option<&KeptDiagram>,
     left: &mut Option<Workspaces>,
     paths: &Paths,
     node: usize,
 ) -> Result<ControlLine, AllocError>
     requires baseline { HoldsBaseline baseline.now }
+    requires copy { copy.old ≡ baseline.now.diagram.now }
     requires kept { IfSome kept (λ known. IsKeptDiagram baseline.now.diagram.now.nodes known.now) }
     requires left { AreLeft left.old }
     requires chance { (node_at baseline.now.diagram.now.nodes node).kind ≡ Chance }
     requires within { node < length baseline.now.diagram.now.nodes }
     ensures node { IfOk result (λ line. line.node ≡ node) }
     ensures line { IfOk result (IsControlLineOf baseline.now paths.now) }
+    ensures again { copy.new ≡ copy.old }
     ensures left { AreLeft left.new }
 {
     let _count = baseline.diagram.count();
     let response = paths.respond.holds(node);
     let instrumental = paths.instruments.holds(node);
     let matters = paths.matter.holds(node);
-    let found = find(alloc, baseline, kept, left, matters, node)?;
+    let found = find(alloc, baseline, copy, kept, left, matters, node)?;
     Ok(ControlLine {
         node,
         response,
@@ -104,15 +107,17 @@ fn control_line(
     })
 }
 
-/// A line for each of the chance nodes. All runs share their workspaces.
+/// A line for each of the chance nodes. All runs share their workspaces and one copy of the baseline's diagram.
 fn control_lines(
     alloc: Global,
     baseline: &Baseline,
+    copy: &mut Diagram,
     kept: Option<&KeptDiagram>,
     paths: &Paths,
     nodes: &[usize],
 ) -> Result<Vec<ControlLine>, AllocError>
     requires baseline { HoldsBaseline baseline.now }
+    requires copy { copy.old ≡ baseline.now.diagram.now }
     requires kept { IfSome kept (λ known. IsKeptDiagram baseline.now.diagram.now.nodes known.now) }
     requires chance { AreChanceNodes baseline.now.diagram.now.nodes nodes.now }
     requires within { All (λ v. v < length baseline.now.diagram.now.nodes) nodes.now }
@@ -122,7 +127,7 @@ fn control_lines(
     let mut lines = Vec::with_capacity(alloc, nodes.len())?;
     let mut left = None;
     for node in nodes {
-        let line = control_line(alloc, baseline, kept, &mut left, paths, *node)?;
+        let line = control_line(alloc, baseline, copy, kept, &mut left, paths, *node)?;
         lines.push(line)?;
     }
     Ok(lines)
@@ -139,7 +144,8 @@ fn control_lines(
 /// The optimum before is the answer's own gain. It trims the diagram and searches it a few times, and each line costs at
 /// most one edit and one run of the solver. The plans of the agent's decisions and those of the utilities' worths are made
 /// once for all lines, and copied for each run, which makes only those of the node's decision. The searches for the agent's
-/// decisions are made once, too, and each run makes only that for the node. The runs share their workspaces.
+/// decisions are made once, too, and each run makes only that for the node. The runs share their workspaces, and one copy of
+/// the diagram, in which the agent decides at one node after another.
 ///
 /// # Errors
 ///
@@ -170,5 +176,6 @@ pub fn control(
     };
     let nodes = chance_nodes(alloc, diagram)?;
     let kept = keep_for(alloc, &alone, &paths.matter)?;
-    control_lines(alloc, &baseline, kept.as_ref(), &paths, &nodes)
+    let mut copy = copy_diagram(alloc, &alone)?;
+    control_lines(alloc, &baseline, &mut copy, kept.as_ref(), &paths, &nodes)
 }

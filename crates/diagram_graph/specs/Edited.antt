@@ -21,6 +21,10 @@ IsWithNodes d nodes e = e ≡ with_nodes d nodes
 abbrev pub IsWithDecision : DiagramView → ℕ → ℕ → DiagramView → Type 0
 IsWithDecision d agent v e = IsWithNodes d (as_decision d.nodes agent v) e
 
+-- so it is, and that is the node as it was
+abbrev pub IsDecidedAt : DiagramView → ℕ → ℕ → DiagramView → NodeView → Type 0
+IsDecidedAt d agent v e was = IsWithDecision d agent v e × (was ≡ node_at d.nodes v)
+
 -- e is the diagram d in which only the agent decides, and the others take the answered choices
 abbrev pub DecidesAlone : DiagramView → ℕ → List AnswerView → DiagramView → Type 0
 DecidesAlone d agent answers e = IsWithNodes d (one_agent d.nodes agent answers) e

@@ -1,16 +1,16 @@
 //! Nodes of another kind: a chance node under an agent's control, and decisions of other agents as chance nodes.
 
-ghost use Rattle.std.specs.Prelude.{◌≡◌, ◌<◌, ◌≤◌, ◌*◌, ◌↔◌, ◌++◌, map, slice_set, length, pos, IsTrue, IfOk, OnOk, IsErrOf};
+ghost use Rattle.std.specs.Prelude.{◌≡◌, ℕ, ◌<◌, ◌≤◌, ◌*◌, ◌↔◌, ◌++◌, map, slice_set, length, pos, IsTrue, IfOk, OnOk, IsErrOf, OnErr};
 ghost use Rattle.maid_model.specs.declared.diagrams.Kind.TheVariants.{Chance};
 ghost use Rattle.maid_model.specs.declared.limits.TheConstants.{MOST_CELLS};
 ghost use Rattle.maid_model.specs.Answers.{FitsAnswers, rows_at};
-ghost use Rattle.maid_model.specs.Edits.{as_chance, as_decision, made_decision};
+ghost use Rattle.maid_model.specs.Edits.{as_chance, made_decision};
 ghost use Rattle.maid_model.specs.Nodes.{IsDecision, node_at};
 ghost use Rattle.maid_model.specs.Profiles.{pure_row};
-ghost use Rattle.diagram_graph.specs.Edited.{DecidesAlone, IsFixedNode, IsOthersDecision, IsWithDecision, pure_cells};
+ghost use Rattle.diagram_graph.specs.Edited.{DecidesAlone, IsDecidedAt, IsFixedNode, IsOthersDecision, IsWithDecision, pure_cells};
 ghost use Rattle.diagram_graph.specs.Room.{LacksRoomFor};
 
-use crate::copies::{copy_node, copy_nodes, with_nodes};
+use crate::copies::{copy_diagram, copy_node, with_nodes};
 use crate::room::{cells_at, rule_cells};
 use arc_laws::{answer_is_optimum, controlled};
 use maid_model::{Answer, Diagram, Kind, MOST_RULE_CELLS, Node, Row, Solved};
@@ -60,27 +60,57 @@ fn decision_node(
     })
 }
 
-fn put(nodes: &mut Vec<Node>, v: usize, node: Node)
-    requires { v < length nodes.old.items }
-    ensures { nodes.new.items ≡ slice_set nodes.old.items v node }
+/// Whether all rules together would have too many cells if the chance node were a decision.
+fn lacks_room(diagram: &Diagram, node: usize) -> bool
+    requires { (node_at diagram.now.nodes node).kind ≡ Chance }
+    ensures { (agent : ℕ) → IsTrue result ↔ LacksRoomFor diagram.now agent node }
 {
-    nodes[v] = node;
+    let _count = diagram.count();
+    rule_cells(diagram) + cells_at(diagram, node) > MOST_RULE_CELLS
 }
 
-/// The diagram's nodes with the one as a decision of the agent.
-fn decided_nodes(
+/// Makes the chance node a decision of the agent, for whose rule there is room. Gives the node as it was.
+fn put_decision(
     alloc: Global,
-    diagram: &Diagram,
-    v: usize,
+    diagram: &mut Diagram,
+    node: usize,
     agent: usize,
-) -> Result<Vec<Node>, AllocError>
-    requires { v < length diagram.now.nodes }
-    ensures { IfOk result (λ nodes. nodes.items ≡ as_decision diagram.now.nodes agent v) }
+) -> Result<Node, AllocError>
+    requires chance { (node_at diagram.old.nodes node).kind ≡ Chance }
+    requires agent { agent < diagram.old.agents }
+    requires room { LacksRoomFor diagram.old agent node → ⊥ }
+    ensures made { IfOk result (IsDecidedAt diagram.old agent node diagram.new) }
+    ensures same { OnErr result (diagram.new ≡ diagram.old) }
 {
-    let made = decision_node(alloc, diagram, v, agent)?;
-    let mut nodes = copy_nodes(alloc, diagram)?;
-    put(&mut nodes, v, made);
-    Ok(nodes)
+    controlled();
+    let _count = diagram.count();
+    let made = decision_node(alloc, diagram, node, agent)?;
+    Ok(diagram.exchange(node, made))
+}
+
+/// Makes the chance node a decision of the agent in the diagram itself, as `make_decision` does in a copy, and gives the node
+/// as it was: `Diagram::exchange` puts it back. It takes memory for the decision's parents alone, and looks at the rules
+/// of all decisions.
+///
+/// # Errors
+///
+/// Those of `make_decision`. The diagram is as it was then.
+pub fn decide_at(
+    alloc: Global,
+    diagram: &mut Diagram,
+    node: usize,
+    agent: usize,
+) -> Result<Node, MakeFault>
+    requires chance { (node_at diagram.old.nodes node).kind ≡ Chance }
+    requires agent { agent < diagram.old.agents }
+    ensures made { IfOk result (IsDecidedAt diagram.old agent node diagram.new) }
+    ensures too_large { IsErrOf result MakeFault.TooLarge ↔ LacksRoomFor diagram.old agent node }
+    ensures same { OnErr result (diagram.new ≡ diagram.old) }
+{
+    if lacks_room(diagram, node) {
+        return Err(MakeFault::TooLarge);
+    }
+    Ok(put_decision(alloc, diagram, node, agent)?)
 }
 
 /// The diagram in which the chance node is a decision of the agent, with the same states and parents and without its
@@ -98,14 +128,12 @@ pub fn make_decision(
     ensures made { IfOk result (IsWithDecision diagram.now agent node) }
     ensures too_large { IsErrOf result MakeFault.TooLarge ↔ LacksRoomFor diagram.now agent node }
 {
-    controlled();
-    let _count = diagram.count();
-    let cells = rule_cells(diagram) + cells_at(diagram, node);
-    if cells > MOST_RULE_CELLS {
+    if lacks_room(diagram, node) {
         return Err(MakeFault::TooLarge);
     }
-    let nodes = decided_nodes(alloc, diagram, node, agent)?;
-    Ok(with_nodes(alloc, diagram, nodes)?)
+    let mut copy = copy_diagram(alloc, diagram)?;
+    put_decision(alloc, &mut copy, node, agent)?;
+    Ok(copy)
 }
 
 /// The rows answered at the decision, none where it has no answer.

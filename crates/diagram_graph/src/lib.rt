@@ -21,7 +21,7 @@ pub use adding::{AddFault, add_arc, is_too_large};
 pub use arcs::{RemoveFault, lose_arc, remove_arc, without_arc};
 pub use copies::{copy_diagram, copy_nodes};
 pub use cycles::{first_cycle, topological};
-pub use kinds::{MakeFault, fix_others, make_decision};
+pub use kinds::{MakeFault, decide_at, fix_others, make_decision};
 pub use laws::{parents_have_a_cycle_or_none, parents_have_one_cycle_at_most};
 pub use needs::Needs;
 pub use parts::{SubDiagram, part};

@@ -4,8 +4,8 @@ ghost use Rattle.std.specs.Prelude.{◌≡◌, IfOk};
 ghost use Rattle.graph_tests.specs.Edits.{example, answer_of, answers};
 
 use diagram_graph::{
-    AddFault, MakeFault, RemoveFault, add_arc, fix_others, lose_arc, make_decision, part,
-    remove_arc,
+    AddFault, MakeFault, RemoveFault, add_arc, decide_at, fix_others, lose_arc, make_decision,
+    part, remove_arc,
 };
 use maid_model::{Answer, Diagram, Kind, Row, Solved};
 use sample_diagrams::{chance, decision, sample_diagram, utility};
@@ -100,11 +100,22 @@ fn is_given(alloc: Global) -> Result<bool, MakeFault> {
     Ok(made.kind(1) == Kind::Decision && made.agent_of(1) == 1 && made.cells(1).is_empty())
 }
 
+/// Whether it does so in the diagram itself, and is a chance node with its table again where it is put back.
+fn is_lent(alloc: Global) -> Result<bool, MakeFault> {
+    let mut whole = diagram(alloc)?;
+    let _count = whole.count();
+    let lent = decide_at(alloc, &mut whole, 1, 1)?;
+    let is_decided = whole.kind(1) == Kind::Decision && whole.agent_of(1) == 1;
+    whole.exchange(1, lent);
+    Ok(is_decided && whole.kind(1) == Kind::Chance && whole.cells(1) == [1, 3].as_slice())
+}
+
 #[test]
 fn adds_an_arc_and_gives_control(rt: HostRuntime) -> Result<(), Fail> {
     let alloc = rt.alloc();
     assert!(rt; is_added(alloc)?);
     assert!(rt; is_given(alloc)?);
+    assert!(rt; is_lent(alloc)?);
     Ok(())
 }
 

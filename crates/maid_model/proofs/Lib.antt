@@ -15,6 +15,7 @@ pub mod Ordering
 pub mod Owners
 pub mod Listing
 pub mod Indexes
+pub mod Exchanged
 pub mod Picked
 pub mod Weighing
 pub mod Summing

@@ -1,9 +1,9 @@
 -- Edited diagrams: an arc more or less, a chance node under an agent's control, decisions of others as chance nodes.
-use Rattle.std.specs.Prelude.{ℕ, List, [], ◌∷◌, ◌++◌, map, filter, ◌==◌, not, pos, if◌then◌else◌, slice_set}
+use Rattle.std.specs.Prelude.{◌≡◌, ℕ, List, [], ◌∷◌, ◌++◌, map, filter, ◌==◌, not, pos, if◌then◌else◌, slice_set}
 use Rattle.maid_model.specs.declared.diagrams.Kind.{Kind}
 use Rattle.maid_model.specs.declared.diagrams.Kind.TheVariants.{Chance, Decision, Utility}
-use Rattle.maid_model.specs.Views.{NodeView, AnswerView}
-use Rattle.maid_model.specs.Nodes.{agent_of, node_at, states_of, numbers_of}
+use Rattle.maid_model.specs.Views.{NodeView, AnswerView, DiagramView, diagram_of}
+use Rattle.maid_model.specs.Nodes.{agent_of, is_utility, node_at, states_of, numbers_of}
 use Rattle.maid_model.specs.Profiles.{pure_rule}
 use Rattle.maid_model.specs.Answers.{rows_at}
 
@@ -32,6 +32,16 @@ with_arc nodes x d =
       parents = node.parents ++ x ∷ [];
       cells = node.cells;
     })
+
+-- the second node has the states and parents of the first, and is a utility just where that is one
+pub record AreAlike (one two : NodeView) : Type 0 where
+  pub states : two.states ≡ one.states
+  pub parents : two.parents ≡ one.parents
+  pub utilities : is_utility two.kind ≡ is_utility one.kind
+
+-- the diagram with that node in the place of v
+abbrev pub with_node : DiagramView → ℕ → NodeView → DiagramView
+with_node d v node = diagram_of (slice_set d.nodes v node) d.agents d.decimals
 
 -- the node x as a decision of the agent over its own parents
 abbrev pub made_decision : List NodeView → ℕ → ℕ → NodeView

@@ -4,6 +4,7 @@ ghost use Rattle.std.specs.Prelude.{◌≡◌, ℕ, ◌<◌, ◌≤◌, ◌↔�
 ghost use Rattle.node_sets.specs.Arcs.{HasParent, HasChild};
 ghost use Rattle.node_sets.specs.Sets.{IsIn};
 ghost use Rattle.maid_model.specs.Diagrams.{IsDiagram};
+ghost use Rattle.maid_model.specs.Edits.{AreAlike, with_node};
 ghost use Rattle.maid_model.specs.Graph.{Arc};
 ghost use Rattle.maid_model.specs.Nodes.{IsDecision, IsOwnedBy, IsUtility, agent_of, decisions_of, counts_of, is_decision, node_at, parents_of, rows_of, states_of};
 ghost use Rattle.maid_model.specs.Relevance.{IsLive};
@@ -16,6 +17,7 @@ use node_sets::{ArcSets, NodeSet};
 use smallvec::SmallVec;
 use std::alloc::{AllocError, Global};
 use std::marker::Model;
+use std::mem;
 
 /// What a node is.
 #[derive(Clone, Copy, Debug, PartialEq, Eq)]
@@ -108,6 +110,18 @@ impl Diagram {
         ensures diagram { IsDiagram self }
     {
         self.nodes
+    }
+
+    /// Puts the node in the place of one that is like it, and gives that one back. It takes no memory, and looks at no other
+    /// node.
+    pub fn exchange(&mut self, v: usize, node: Node) -> Node
+        requires within { v < length self.old.nodes }
+        requires alike { AreAlike (node_at self.old.nodes v) node }
+        requires diagram { IsDiagram (with_node self.old v node) }
+        ensures diagram { self.new ≡ with_node self.old v node }
+        ensures node { result ≡ node_at self.old.nodes v }
+    {
+        mem::replace(&mut self.nodes[v], node)
     }
 
     /// How many nodes there are. Who must know that what it holds is a diagram calls it for that clause alone:

@@ -20,6 +20,7 @@ loop-node-preserved c =
       nodes = ap (map line_node) pushed ∙ map-append line_node lines (line ∷ []) ∙ (λ i. c.loop-node.invariant.nodes i ++ node i ∷ []) ∙ sym (take_more c.args.nodes.now c.loop-node.node-index 0 c.loop-node-test.true);
       lines = subst (All IsLine) (sym {A = List ControlLine} pushed) (All-append IsLine lines (line ∷ []) c.loop-node.invariant.lines (All-cons IsLine line [] c.in_ok-line.ensures.line (All-nil IsLine)));
       left = c.control_line.ensures.left;
+      copy = c.control_line.ensures.again ∙ c.loop-node.invariant.copy;
     }
 
 pub returns-in_err-lines-clause-nodes : goal.returns-in_err-lines-clause-nodes
