@@ -11,5 +11,6 @@ mod sums;
 
 pub use counts::Limits;
 pub use laws::first_numbers_fit;
+pub use lists::RunLists;
 pub use runs::{release, run_plan};
 pub use sums::sum_tables;

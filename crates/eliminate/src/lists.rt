@@ -1,12 +1,52 @@
-//! Lists of slots in arrays of fixed room: the first ones of an array.
+//! The lists that runs write into, and the first ones of a list.
 
-ghost use Rattle.std.specs.Prelude.{◌≡◌, ◌≤◌, length, take};
+ghost use Rattle.std.specs.Prelude.{◌≡◌, ◌≤◌, length, take, IfOk};
 
 use factor_core::Slot;
-use node_sets::NodeSet;
+use node_sets::{MOST_NODES, NodeSet};
+use std::alloc::{AllocError, Global};
+use std::marker::Model;
 
-/// A slot without a cell, for the places of an array where none is listed.
-pub fn blank_slot() -> Slot
+/// What runs write their places and slots into, one run after another. Each run clears what it reads, so there is nothing
+/// to know of what another has left.
+#[derive(Drop)]
+pub struct RunLists {
+    /// For each node the places of the slots that hold it.
+    pub(crate) at: Vec<NodeSet>,
+    pub(crate) slots: Vec<Slot>,
+    pub(crate) joined: Vec<Slot>,
+}
+
+impl Model for RunLists {
+    ghost use Rattle.std.specs.Prelude.{◌≡◌, vec_len, ⊤};
+    ghost use Rattle.node_sets.specs.declared.sets.TheConstants.{MOST_NODES};
+
+    ghost Value = { ⊤ };
+
+    ghost view = { λ _. tt };
+
+    ghost invariant = { λ l. (vec_len l.at ≡ MOST_NODES)
+        × (vec_len l.slots ≡ MOST_NODES)
+        × (vec_len l.joined ≡ MOST_NODES) };
+}
+
+impl RunLists {
+    /// Lists for runs of any plan. They take 32 KB.
+    ///
+    /// # Errors
+    ///
+    /// Only where memory runs out.
+    pub fn reserve(alloc: Global) -> Result<RunLists, AllocError> {
+        Ok(RunLists {
+            at: vec![in alloc; NodeSet::empty(); MOST_NODES]?,
+            slots: vec![in alloc; blank_slot(); MOST_NODES]?,
+            joined: vec![in alloc; blank_slot(); MOST_NODES]?,
+        })
+    }
+}
+
+/// A slot without a cell, where none is listed.
+fn blank_slot() -> Slot
     ensures { result.len ≡ 0 }
 {
     Slot {

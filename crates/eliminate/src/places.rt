@@ -61,15 +61,8 @@ fn note_place(at: &mut [NodeSet], scope: &NodeSet, place: usize)
     }
 }
 
-/// No place of any node, for so many nodes.
-pub fn no_places<const N: usize>() -> [NodeSet; N]
-    ensures { IsBlank result }
-{
-    [NodeSet::empty(); N]
-}
-
 /// Takes the places of all nodes away.
-fn clear(at: &mut [NodeSet])
+pub fn clear(at: &mut [NodeSet])
     ensures { IsBlank at.new }
 {
     for v in 0..at.len() {

@@ -12,22 +12,13 @@ ghost use Rattle.eliminate.specs.Places.{IsBlank, IsBoard};
 ghost use Rattle.eliminate.specs.Steps.{first_nodes, CanJoinLive, Joins};
 
 use crate::firsts::{Play, first_tables};
-use crate::lists::{before, blank_slot};
-use crate::places::{Places, all_live, gather, gather_live, no_places, places_of, put_slot};
+use crate::lists::{RunLists, before};
+use crate::places::{Places, all_live, clear, gather, gather_live, places_of, put_slot};
 use cell_rings::Cell;
 use factor_core::{Slot, Workspace};
 use maid_model::{Diagram, Profile};
 use node_sets::{MOST_NODES, NodeSet};
 use size_precheck::Plan;
-
-/// Up to how many nodes shorter lists do, which are blanked sooner.
-pub const FEW: usize = 64;
-
-/// How many slots the lists of short runs have.
-pub const SHORT: usize = 42;
-
-/// And those of longer ones that are no longer than most.
-const MEDIUM: usize = 96;
 
 /// Ends all tables of the workspace: no cell is left, and there is as much room as after `reserve`. It takes no memory.
 pub fn release<C: Cell>(work: &mut Workspace<C>)
@@ -99,17 +90,19 @@ fn run_with<C: Cell>(
     work.product(diagram, before(joined, count))
 }
 
-/// The run of a plan over up to `NODES` nodes, of up to `SLOTS` first tables.
-#[inline(never)]
-fn run_sized<C: Cell, const NODES: usize, const SLOTS: usize>(
+/// The run of the plan with lists for any number of nodes, of which it clears the places of those that there are.
+fn run_cleared<C: Cell>(
     work: &mut Workspace<C>,
     plan: &Plan,
     diagram: &Diagram,
     profile: &Profile,
+    at: &mut [NodeSet],
+    slots: &mut [Slot],
+    joined: &mut [Slot],
 ) -> Slot
-    requires few { (NODES ≤ MOST_NODES) × (SLOTS ≤ MOST_NODES) }
-    requires nodes { length diagram.now.nodes ≤ NODES }
-    requires tables { length (first_nodes diagram.now.nodes plan.now.plan) ≤ SLOTS }
+    requires at { length at.old ≡ MOST_NODES }
+    requires slots { length slots.old ≡ MOST_NODES }
+    requires joined { length joined.old ≡ MOST_NODES }
     requires asked { CanBePlanned diagram.now.nodes plan.now.plan }
     requires made { IsMade diagram.now.nodes plan.now.plan plan.now }
     requires counted { plan.now.size.cells < COUNT_END }
@@ -118,36 +111,19 @@ fn run_sized<C: Cell, const NODES: usize, const SLOTS: usize>(
     requires fits { 2 * plan_total diagram.now.nodes profile.now plan.now.plan ≤ C.ring.most }
     ensures { SumsPlanIn C.Cell diagram.now profile.now plan.now work.old work.new result }
 {
-    let mut at: [NodeSet; NODES] = no_places();
-    let mut slots = [blank_slot(); SLOTS];
-    let mut joined = [blank_slot(); SLOTS];
-    run_with(
-        work,
-        plan,
-        diagram,
-        profile,
-        &mut at,
-        &mut slots,
-        &mut joined,
-    )
-}
-
-/// Whether a list of so many slots has a place for each slot that the run of the plan makes: one at most for each node
-/// that the plan keeps or eliminates, one for its utility, and one for each step.
-fn has_places(plan: &Plan, slots: usize) -> bool
-    ensures { IsTrue result ↔ length plan.now.plan.keep + 2 * length plan.now.steps < slots }
-{
-    let steps = plan.steps().len();
-    plan.keep().len() < slots.saturating_sub(steps).saturating_sub(steps)
+    let (at, _) = at.split_at_mut(diagram.count());
+    clear(at);
+    run_with(work, plan, diagram, profile, at, slots, joined)
 }
 
 /// Runs the plan: makes its first tables, eliminates its nodes in their order, and multiplies the tables that are left
 /// (variable elimination: Zhang and Poole 1996). The slot is over the kept nodes, the lowest slowest, and in each world
 /// its cell is the sum, over the states of the plan's other nodes, of the product of the plan's tables. The plan's cells,
 /// of which the count has not stopped, must be within the room that is left, and as many are appended. It multiplies and
-/// adds cells about as often as the plan's work counts, and takes no memory.
+/// adds cells about as often as the plan's work counts, clears the lists as far as there are nodes, and takes no memory.
 pub fn run_plan<C: Cell>(
     work: &mut Workspace<C>,
+    lists: &mut RunLists,
     plan: &Plan,
     diagram: &Diagram,
     profile: &Profile,
@@ -160,16 +136,13 @@ pub fn run_plan<C: Cell>(
     requires fits { 2 * plan_total diagram.now.nodes profile.now plan.now.plan ≤ C.ring.most }
     ensures { SumsPlanIn C.Cell diagram.now profile.now plan.now work.old work.new result }
 {
-    let has_many = diagram.count() > FEW;
-    if has_places(plan, SHORT) {
-        if has_many {
-            run_sized::<C, MOST_NODES, SHORT>(work, plan, diagram, profile)
-        } else {
-            run_sized::<C, FEW, SHORT>(work, plan, diagram, profile)
-        }
-    } else if has_places(plan, MEDIUM) {
-        run_sized::<C, MOST_NODES, MEDIUM>(work, plan, diagram, profile)
-    } else {
-        run_sized::<C, MOST_NODES, MOST_NODES>(work, plan, diagram, profile)
-    }
+    run_cleared(
+        work,
+        plan,
+        diagram,
+        profile,
+        lists.at.as_mut_slice(),
+        lists.slots.as_mut_slice(),
+        lists.joined.as_mut_slice(),
+    )
 }

@@ -16,9 +16,9 @@ ghost use Rattle.eliminate.specs.Results.{Grows, FindTablesIn, NoneIffTooMuch, S
 
 use crate::counts::{Limits, count_cells, spend};
 use crate::firsts::{Play, put_table};
-use crate::lists::{before, blank_slot};
-use crate::places::{Places, all_live, gather, gather_live, no_places, places_of};
-use crate::runs::{FEW, SHORT, eliminate};
+use crate::lists::{RunLists, before};
+use crate::places::{Places, all_live, clear, gather, gather_live, places_of};
+use crate::runs::eliminate;
 use cell_rings::Cell;
 use factor_core::{Slot, Workspace, united_scope};
 use maid_model::{Diagram, Kind, Profile};
@@ -172,21 +172,24 @@ fn sum_with<C: Cell>(
     multiply_live(work, diagram, slots, joined, &places, left)
 }
 
-/// The sum over up to `NODES` nodes, of up to `SLOTS` first tables.
-#[inline(never)]
-fn sum_sized<C: Cell, const NODES: usize, const SLOTS: usize>(
+/// The sum with lists for any number of nodes, of which it clears the places of those that there are.
+fn sum_cleared<C: Cell>(
     work: &mut Workspace<C>,
     diagram: &Diagram,
     profile: &Profile,
     nodes: &[usize],
     steps: &[usize],
     limits: Limits,
+    at: &mut [NodeSet],
+    slots: &mut [Slot],
+    joined: &mut [Slot],
 ) -> Option<Slot>
-    requires sizes { (NODES ≤ MOST_NODES) × (SLOTS ≤ MOST_NODES) }
-    requires at { length diagram.now.nodes ≤ NODES }
-    requires tables { length nodes.now ≤ SLOTS }
+    requires at { length at.old ≡ MOST_NODES }
+    requires slots { length slots.old ≡ MOST_NODES }
+    requires joined { length joined.old ≡ MOST_NODES }
     requires profile { IsProfile diagram.now.nodes profile.now }
     requires known { All (λ v. v < length diagram.now.nodes) nodes.now }
+    requires few { length nodes.now ≤ MOST_NODES }
     requires numbers { All (NumbersFit C.ring.most diagram.now.nodes profile.now) nodes.now }
     requires steps { All (λ v. v < length diagram.now.nodes) steps.now }
     requires holds { FindTablesIn C.Cell diagram.now profile.now nodes.now steps.now }
@@ -197,19 +200,10 @@ fn sum_sized<C: Cell, const NODES: usize, const SLOTS: usize>(
     ensures none { NoneIffTooMuch C.Cell diagram.now profile.now nodes.now steps.now limits result }
     ensures grows { Grows C.ring diagram.now.nodes work.old work.new }
 {
-    let mut at: [NodeSet; NODES] = no_places();
-    let mut slots = [blank_slot(); SLOTS];
-    let mut joined = [blank_slot(); SLOTS];
+    let (at, _) = at.split_at_mut(diagram.count());
+    clear(at);
     sum_with(
-        work,
-        diagram,
-        profile,
-        nodes,
-        steps,
-        limits,
-        &mut at,
-        &mut slots,
-        &mut joined,
+        work, diagram, profile, nodes, steps, limits, at, slots, joined,
     )
 }
 
@@ -219,6 +213,7 @@ fn sum_sized<C: Cell, const NODES: usize, const SLOTS: usize>(
 /// ask for more work. It takes no memory, and goes over no joined set before it knows that the limits allow that.
 pub fn sum_tables<C: Cell>(
     work: &mut Workspace<C>,
+    lists: &mut RunLists,
     diagram: &Diagram,
     profile: &Profile,
     nodes: &[usize],
@@ -238,11 +233,15 @@ pub fn sum_tables<C: Cell>(
     ensures none { NoneIffTooMuch C.Cell diagram.now profile.now nodes.now steps.now limits result }
     ensures grows { Grows C.ring diagram.now.nodes work.old work.new }
 {
-    let count = diagram.count();
-    let is_short = steps.len() <= SHORT && nodes.len() <= SHORT - steps.len();
-    if is_short && count <= FEW {
-        sum_sized::<C, FEW, SHORT>(work, diagram, profile, nodes, steps, limits)
-    } else {
-        sum_sized::<C, MOST_NODES, MOST_NODES>(work, diagram, profile, nodes, steps, limits)
-    }
+    sum_cleared(
+        work,
+        diagram,
+        profile,
+        nodes,
+        steps,
+        limits,
+        lists.at.as_mut_slice(),
+        lists.slots.as_mut_slice(),
+        lists.joined.as_mut_slice(),
+    )
 }

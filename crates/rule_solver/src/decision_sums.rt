@@ -18,7 +18,7 @@ use crate::spaces::{Workspaces, most_cells};
 use crate::totals::{list_totals, product_in};
 use crate::widths::fits_small;
 use cell_rings::{Gain, SmallGain};
-use eliminate::{release, run_plan};
+use eliminate::{RunLists, release, run_plan};
 use factor_core::Workspace;
 use maid_model::{Diagram, Profile};
 use node_sets::NodeSet;
@@ -60,6 +60,7 @@ impl<'a> Setting<'a> {
         plan: &Plan,
         factor: u128,
         work: &mut Workspace<C>,
+        lists: &mut RunLists,
         masses: &mut [u128],
     ) -> Result<(), AllocError>
         requires setting { HoldsSetting self.now }
@@ -75,7 +76,7 @@ impl<'a> Setting<'a> {
     {
         plans_sum_scopes();
         plans_keep_scopes();
-        let slot = run_plan(work, plan, self.diagram, self.base);
+        let slot = run_plan(work, lists, plan, self.diagram, self.base);
         let table = LastTable {
             diagram: self.diagram,
             decision: self.decision,
@@ -96,6 +97,7 @@ impl<'a> Setting<'a> {
         plan: &Plan,
         small: &mut Workspace<SmallGain>,
         wide: &mut Workspace<Gain>,
+        lists: &mut RunLists,
         masses: &mut [u128],
     ) -> Result<(), AllocError>
         requires setting { HoldsSetting self.now }
@@ -112,9 +114,9 @@ impl<'a> Setting<'a> {
         left.remove(self.decision);
         let factor = product_in(self.totals, &left);
         if fits_small(self.diagram, self.totals, plan) {
-            self.run_rows(alloc, plan, factor, small, masses)
+            self.run_rows(alloc, plan, factor, small, lists, masses)
         } else {
-            self.run_rows(alloc, plan, factor, wide, masses)
+            self.run_rows(alloc, plan, factor, wide, lists, masses)
         }
     }
 
@@ -125,6 +127,7 @@ impl<'a> Setting<'a> {
         plan: &Plan,
         small: &mut Workspace<SmallGain>,
         wide: &mut Workspace<Gain>,
+        lists: &mut RunLists,
     ) -> Result<Vec<u128>, AllocError>
         requires setting { HoldsSetting self.now }
         requires planned { IsPlannedForRows self.now plan.now }
@@ -133,7 +136,7 @@ impl<'a> Setting<'a> {
         ensures again { OnOk result ((small.new ≡ small.old) × (wide.new ≡ wide.old)) }
     {
         let mut masses = vec![in alloc; 0; self.diagram.rows(self.decision)]?;
-        self.put_rows(alloc, plan, small, wide, &mut masses)?;
+        self.put_rows(alloc, plan, small, wide, lists, &mut masses)?;
         Ok(masses)
     }
 
@@ -146,6 +149,7 @@ impl<'a> Setting<'a> {
         plan: &Plan,
         factor: u128,
         work: &mut Workspace<C>,
+        lists: &mut RunLists,
         gains: &mut [i128],
     ) -> Result<(), AllocError>
         requires setting { HoldsSetting self.now }
@@ -160,7 +164,7 @@ impl<'a> Setting<'a> {
         ensures len { length gains.new ≡ length gains.old }
     {
         plans_keep_scopes();
-        let slot = run_plan(work, plan, self.diagram, self.base);
+        let slot = run_plan(work, lists, plan, self.diagram, self.base);
         let table = LastTable {
             diagram: self.diagram,
             decision: self.decision,
@@ -182,6 +186,7 @@ impl<'a> Setting<'a> {
         plan: &Plan,
         small: &mut Workspace<SmallGain>,
         wide: &mut Workspace<Gain>,
+        lists: &mut RunLists,
         gains: &mut [i128],
     ) -> Result<(), AllocError>
         requires setting { HoldsSetting self.now }
@@ -197,9 +202,9 @@ impl<'a> Setting<'a> {
         let left = self.scope.difference(&plan.members());
         let factor = product_in(self.totals, &left);
         if fits_small(self.diagram, self.totals, plan) {
-            self.run_goal(alloc, goal, plan, factor, small, gains)
+            self.run_goal(alloc, goal, plan, factor, small, lists, gains)
         } else {
-            self.run_goal(alloc, goal, plan, factor, wide, gains)
+            self.run_goal(alloc, goal, plan, factor, wide, lists, gains)
         }
     }
 
@@ -224,12 +229,13 @@ impl<'a> Setting<'a> {
     {
         plans_keep_scopes();
         let cells = spaces.pair_cells;
-        let pairs = &mut spaces.pairs;
-        let added = add_together(alloc, self, goals, plans, cells, pairs, gains)?;
+        let (pairs, lists) = (&mut spaces.pairs, &mut spaces.lists);
+        let added = add_together(alloc, self, goals, plans, cells, pairs, lists, gains)?;
         for place in added..goals.len() {
             let plan = &plans[place];
             let (small, wide) = (&mut spaces.small, &mut spaces.wide);
-            self.add_goal(alloc, goals[place], plan, small, wide, gains)?;
+            let lists = &mut spaces.lists;
+            self.add_goal(alloc, goals[place], plan, small, wide, lists, gains)?;
         }
         Ok(())
     }
@@ -292,7 +298,8 @@ impl<'a> Setting<'a> {
     {
         plans_sum_scopes();
         let gains = self.gains(alloc, &plans.goals, spaces)?;
-        let masses = self.masses(alloc, &plans.rows, &mut spaces.small, &mut spaces.wide)?;
+        let (small, wide) = (&mut spaces.small, &mut spaces.wide);
+        let masses = self.masses(alloc, &plans.rows, small, wide, &mut spaces.lists)?;
         Ok(RowSums { gains, masses })
     }
 }

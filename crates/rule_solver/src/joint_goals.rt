@@ -18,7 +18,7 @@ use crate::reading::{LastTable, add_gains, list_scope};
 use crate::totals::product_in;
 use crate::widths::greatest_value;
 use cell_rings::Both;
-use eliminate::{Limits, first_numbers_fit, release, sum_tables};
+use eliminate::{Limits, RunLists, first_numbers_fit, release, sum_tables};
 use factor_core::Workspace;
 use maid_model::Diagram;
 use node_sets::NodeSet;
@@ -213,6 +213,7 @@ impl JointSums {
         goals: &[usize],
         limits: Limits,
         work: &mut Workspace<Both>,
+        lists: &mut RunLists,
         gains: &mut [i128],
     ) -> Result<usize, AllocError>
         requires setting { HoldsSetting setting.now }
@@ -232,6 +233,7 @@ impl JointSums {
         nodes.extend_from_slice(goals)?;
         let slot = sum_tables(
             work,
+            lists,
             setting.diagram,
             setting.base,
             &nodes,
@@ -264,6 +266,7 @@ impl JointSums {
         plans: &[Plan],
         cells: usize,
         work: &mut Workspace<Both>,
+        lists: &mut RunLists,
         gains: &mut [i128],
     ) -> Result<usize, AllocError>
         requires setting { HoldsSetting setting.now }
@@ -285,7 +288,7 @@ impl JointSums {
             Some(most) => {
                 let limits = Limits { cells, work: most };
                 let goals = before(goals, count);
-                let added = self.sum_goals(alloc, setting, goals, limits, work, gains)?;
+                let added = self.sum_goals(alloc, setting, goals, limits, work, lists, gains)?;
                 release(work);
                 Ok(added)
             }
@@ -303,6 +306,7 @@ pub(crate) fn add_together(
     plans: &[Plan],
     cells: usize,
     work: &mut Workspace<Both>,
+    lists: &mut RunLists,
     gains: &mut [i128],
 ) -> Result<usize, AllocError>
     requires setting { HoldsSetting setting.now }
@@ -327,7 +331,7 @@ pub(crate) fn add_together(
     'parts: while done < goals.len() {
         let rest = behind(goals, done);
         let plans = behind(plans, done);
-        let added = joint.add_first(alloc, setting, rest, plans, cells, work, gains)?;
+        let added = joint.add_first(alloc, setting, rest, plans, cells, work, lists, gains)?;
         if added == 0 {
             break;
         }

@@ -37,6 +37,7 @@ use crate::spaces::Workspaces;
 use crate::totals::list_totals;
 use crate::worths::{Stake, worth};
 use cell_rings::{Gain, SmallGain};
+use eliminate::RunLists;
 use factor_core::Workspace;
 use maid_laws::{answers_are_best, exchange, one_agent};
 use maid_model::{Answer, Diagram, Kind, Profile, Ratio, Row};
@@ -153,6 +154,7 @@ fn worth_for(
     plan: &Plan,
     small: &mut Workspace<SmallGain>,
     wide: &mut Workspace<Gain>,
+    lists: &mut RunLists,
 ) -> i128
     requires diagram { IsDiagram diagram.now }
     requires within { utility < length diagram.now.nodes }
@@ -167,7 +169,7 @@ fn worth_for(
     ensures again { (small.new ≡ small.old) × (wide.new ≡ wide.old) }
 {
     if diagram.owns(agent, utility) {
-        worth(diagram, profile, totals, utility, plan, small, wide)
+        worth(diagram, profile, totals, utility, plan, small, wide, lists)
     } else {
         0
     }
@@ -183,6 +185,7 @@ fn list_worths_for(
     plans: &[Plan],
     small: &mut Workspace<SmallGain>,
     wide: &mut Workspace<Gain>,
+    lists: &mut RunLists,
 ) -> Result<Vec<i128>, AllocError>
     requires profile { IsProfile diagram.now.nodes profile.now }
     requires rules { HasUnitRules diagram.now.nodes profile.now }
@@ -199,7 +202,7 @@ fn list_worths_for(
         match diagram.kind(v) {
             Kind::Utility => {
                 let plan = &plans[place];
-                let worth = worth_for(diagram, profile, agent, totals, v, plan, small, wide);
+                let worth = worth_for(diagram, profile, agent, totals, v, plan, small, wide, lists);
                 worths.push(worth)?;
                 place += 1;
             }
@@ -230,7 +233,10 @@ fn expected_for(
     let _agents = diagram.agents();
     let totals = list_totals(alloc, diagram, profile)?;
     let (small, wide) = (&mut spaces.small, &mut spaces.wide);
-    let worths = list_worths_for(alloc, diagram, profile, agent, &totals, plans, small, wide)?;
+    let lists = &mut spaces.lists;
+    let worths = list_worths_for(
+        alloc, diagram, profile, agent, &totals, plans, small, wide, lists,
+    )?;
     let stake = Stake {
         diagram,
         profile,

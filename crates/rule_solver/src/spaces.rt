@@ -5,6 +5,7 @@ ghost use Rattle.maid_model.specs.declared.limits.TheConstants.{MOST_PLAN_CELLS}
 ghost use Rattle.rule_solver.specs.Rooms.{AreLeft, AreNeededForPlans, AreReady, AreThoseLeft};
 
 use cell_rings::{Both, Gain, SmallGain};
+use eliminate::RunLists;
 use factor_core::Workspace;
 use size_precheck::Plan;
 use std::alloc::{AllocError, Global};
@@ -21,6 +22,8 @@ pub struct Workspaces {
     pub small: Workspace<SmallGain>,
     pub wide: Workspace<Gain>,
     pub pairs: Workspace<Both>,
+    /// What the runs in any of the three write their places and slots into.
+    pub lists: RunLists,
     /// How many cells `small` and `wide` have room for.
     pub cells: usize,
     /// How many cells `pairs` has room for.
@@ -39,6 +42,7 @@ impl Workspaces {
             small: Workspace::reserve(alloc, cells)?,
             wide: Workspace::reserve(alloc, cells)?,
             pairs: Workspace::reserve(alloc, pair_cells)?,
+            lists: RunLists::reserve(alloc)?,
             cells,
             pair_cells,
         })

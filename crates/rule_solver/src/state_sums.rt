@@ -13,7 +13,7 @@ use crate::numbers::Number;
 use crate::spaces::Workspaces;
 use crate::totals::list_totals;
 use crate::widths::fits_small;
-use eliminate::{release, run_plan};
+use eliminate::{RunLists, release, run_plan};
 use factor_core::Workspace;
 use maid_model::{Diagram, Profile};
 use size_precheck::Plan;
@@ -27,6 +27,7 @@ fn run_at<C: Number>(
     state: usize,
     plan: &Plan,
     work: &mut Workspace<C>,
+    lists: &mut RunLists,
 ) -> i128
     requires within { node < length diagram.now.nodes }
     requires state { state < states_of diagram.now.nodes node }
@@ -38,7 +39,7 @@ fn run_at<C: Number>(
     ensures sum { IsSumAt diagram.now.nodes profile.now plan.now.plan node state result }
     ensures again { work.new ≡ work.old }
 {
-    let slot = run_plan(work, plan, diagram, profile);
+    let slot = run_plan(work, lists, plan, diagram, profile);
     let sum = work.at(diagram, &slot, &[state]);
     release(work);
     sum.number()
@@ -74,9 +75,10 @@ pub fn sum_at(
 {
     let totals = list_totals(alloc, diagram, profile)?;
     let (small, wide) = (&mut spaces.small, &mut spaces.wide);
+    let lists = &mut spaces.lists;
     if fits_small(diagram, &totals, plan) {
-        Ok(run_at(diagram, profile, node, state, plan, small))
+        Ok(run_at(diagram, profile, node, state, plan, small, lists))
     } else {
-        Ok(run_at(diagram, profile, node, state, plan, wide))
+        Ok(run_at(diagram, profile, node, state, plan, wide, lists))
     }
 }

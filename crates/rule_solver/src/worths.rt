@@ -21,7 +21,7 @@ use crate::spaces::{Workspaces, most_cells};
 use crate::totals::{list_totals, product_in};
 use crate::widths::fits_small;
 use cell_rings::{Gain, SmallGain};
-use eliminate::{release, run_plan};
+use eliminate::{RunLists, release, run_plan};
 use factor_core::Workspace;
 use maid_model::{Diagram, Kind, Profile, Ratio, descent_is_tested};
 use node_sets::{NodeSet, ancestors};
@@ -38,6 +38,7 @@ fn run_worth<C: Number>(
     utility: usize,
     plan: &Plan,
     work: &mut Workspace<C>,
+    lists: &mut RunLists,
 ) -> i128
     requires profile { IsProfile diagram.now.nodes profile.now }
     requires planned { IsPlanned diagram.now.nodes (worth_plan utility) plan.now }
@@ -46,7 +47,7 @@ fn run_worth<C: Number>(
     ensures worth { IsWorth diagram.now.nodes profile.now utility result }
     ensures again { work.new ≡ work.old }
 {
-    let slot = run_plan(work, plan, diagram, profile);
+    let slot = run_plan(work, lists, plan, diagram, profile);
     let worth = work.at(diagram, &slot, &[]);
     release(work);
     worth.number()
@@ -61,6 +62,7 @@ pub(crate) fn worth(
     plan: &Plan,
     small: &mut Workspace<SmallGain>,
     wide: &mut Workspace<Gain>,
+    lists: &mut RunLists,
 ) -> i128
     requires diagram { IsDiagram diagram.now }
     requires within { utility < length diagram.now.nodes }
@@ -76,9 +78,9 @@ pub(crate) fn worth(
 {
     plans_keep_scopes();
     if fits_small(diagram, totals, plan) {
-        run_worth(diagram, profile, utility, plan, small)
+        run_worth(diagram, profile, utility, plan, small, lists)
     } else {
-        run_worth(diagram, profile, utility, plan, wide)
+        run_worth(diagram, profile, utility, plan, wide, lists)
     }
 }
 
@@ -91,6 +93,7 @@ fn list_worths(
     plans: &[Plan],
     small: &mut Workspace<SmallGain>,
     wide: &mut Workspace<Gain>,
+    lists: &mut RunLists,
 ) -> Result<Vec<i128>, AllocError>
     requires profile { IsProfile diagram.now.nodes profile.now }
     requires rules { HasUnitRules diagram.now.nodes profile.now }
@@ -107,7 +110,7 @@ fn list_worths(
         match diagram.kind(v) {
             Kind::Utility => {
                 let plan = &plans[place];
-                worths.push(worth(diagram, profile, totals, v, plan, small, wide))?;
+                worths.push(worth(diagram, profile, totals, v, plan, small, wide, lists))?;
                 place += 1;
             }
             Kind::Chance | Kind::Decision => worths.push(0)?,
@@ -218,6 +221,7 @@ pub fn expected_along(
         plans,
         &mut spaces.small,
         &mut spaces.wide,
+        &mut spaces.lists,
     )?;
     let mut gains = Vec::with_capacity(alloc, diagram.agents())?;
     for agent in 0..diagram.agents() {

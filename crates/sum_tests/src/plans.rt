@@ -8,7 +8,7 @@ ghost use Rattle.eliminate.specs.Results.{plan_total};
 ghost use Rattle.sum_tests.specs.Example.{example_nodes, example, states_plan, ExampleFits};
 
 use cell_rings::{Both, Can, Cell, Gain, Mass, SmallGain, SmallMass};
-use eliminate::{Limits, release, run_plan, sum_tables};
+use eliminate::{Limits, RunLists, release, run_plan, sum_tables};
 use factor_core::{Strip, Workspace};
 use maid_model::{Diagram, Profile};
 use sample_diagrams::{chance, decision, sample_diagram, utility};
@@ -30,8 +30,8 @@ fn make_example(alloc: Global) -> Result<Diagram, AllocError>
     sample_diagram(alloc, &nodes, 1, 0)
 }
 
-/// Whether the plan gives these cells in a workspace of exactly as many cells as it counts: in the second of two runs,
-/// with a release between them.
+/// Whether the plan gives these cells in a workspace of exactly as many cells as it counts: in the second of two runs
+/// with the same lists, with a release between them.
 fn runs_twice<C: Cell + PartialEq>(
     alloc: Global,
     diagram: &Diagram,
@@ -50,9 +50,10 @@ fn runs_twice<C: Cell + PartialEq>(
         return Ok(false);
     }
     let mut work = Workspace::<C>::reserve(alloc, cells)?;
-    run_plan(&mut work, plan, diagram, profile);
+    let mut lists = RunLists::reserve(alloc)?;
+    run_plan(&mut work, &mut lists, plan, diagram, profile);
     release(&mut work);
-    let slot = run_plan(&mut work, plan, diagram, profile);
+    let slot = run_plan(&mut work, &mut lists, plan, diagram, profile);
     let strip = Strip {
         start: slot.start,
         len: slot.len,
@@ -94,8 +95,18 @@ fn sums_to<C: Cell + PartialEq>(
     let _count = diagram.count();
     let profile = Profile::uniform(alloc, &diagram)?;
     let mut space = Workspace::<C>::reserve(alloc, cells)?;
+    let mut lists = RunLists::reserve(alloc)?;
     let limits = Limits { cells, work };
-    match sum_tables(&mut space, &diagram, &profile, &[0, 1, 3], &[0], limits) {
+    let summed = sum_tables(
+        &mut space,
+        &mut lists,
+        &diagram,
+        &profile,
+        &[0, 1, 3],
+        &[0],
+        limits,
+    );
+    match summed {
         Some(slot) => {
             let strip = Strip {
                 start: slot.start,

@@ -1,13 +1,12 @@
 //! The cells of small tables, over each kind of cell.
 
 ghost use Rattle.std.specs.Prelude.{◌≡◌, ◌+◌, ◌*◌, ◌<◌, ◌≤◌, ℕ, All, IfOk, length, true, []};
-ghost use Rattle.maid_model.specs.Nodes.{counts_of};
 ghost use Rattle.node_sets.specs.Sets.{IsIn};
 ghost use Rattle.factor_core.specs.Scopes.{united};
 ghost use Rattle.sum_tests.specs.Trials.{coins_diagram, IsSmallSlot, GrowsByFour, AllStaySmall};
 
 use cell_rings::{Both, Can, Cell, Gain, Mass};
-use factor_core::{Slot, StateCounts, Strip, Workspace};
+use factor_core::{Slot, Strip, Workspace};
 use maid_model::{Diagram, Profile};
 use sample_diagrams::{chance, sample_diagram};
 use std::alloc::{AllocError, Global};
@@ -25,12 +24,10 @@ fn coins(alloc: Global) -> Result<Diagram, AllocError>
 fn first<C: Cell>(
     work: &mut Workspace<C>,
     diagram: &Diagram,
-    counts: &StateCounts,
     profile: &Profile,
     node: usize,
 ) -> Slot
     requires diagram { diagram.now ≡ coins_diagram }
-    requires counts { counts.now ≡ counts_of diagram.now.nodes }
     requires profile { profile.now ≡ [] }
     requires node { node < 2 }
     requires most { 16777216 ≤ C.ring.most }
@@ -38,7 +35,7 @@ fn first<C: Cell>(
     ensures grows { GrowsByFour C.ring work.old work.new result 49 }
     ensures own { IsIn result.scope node }
 {
-    work.table(diagram, counts, profile, node)
+    work.table(diagram, profile, node)
 }
 
 fn multiply<C: Cell>(work: &mut Workspace<C>, diagram: &Diagram, slots: &[Slot]) -> Slot
@@ -50,7 +47,7 @@ fn multiply<C: Cell>(work: &mut Workspace<C>, diagram: &Diagram, slots: &[Slot])
     ensures grows { GrowsByFour C.ring work.old work.new result 2401 }
     ensures own { (v : ℕ) → united slots.now v ≡ true → IsIn result.scope v }
 {
-    work.product(diagram, &StateCounts::of(diagram), slots)
+    work.product(diagram, slots)
 }
 
 fn add_up<C: Cell>(work: &mut Workspace<C>, diagram: &Diagram, slots: &[Slot], node: usize) -> Slot
@@ -64,7 +61,7 @@ fn add_up<C: Cell>(work: &mut Workspace<C>, diagram: &Diagram, slots: &[Slot], n
     requires room { 4 ≤ work.old.spare }
     ensures { GrowsByFour C.ring work.old work.new result 11529602 }
 {
-    work.join_out(diagram, &StateCounts::of(diagram), slots, node)
+    work.join_out(diagram, slots, node)
 }
 
 fn sum_one<C: Cell>(work: &mut Workspace<C>, diagram: &Diagram, slot: &Slot, node: usize) -> Slot
@@ -76,7 +73,7 @@ fn sum_one<C: Cell>(work: &mut Workspace<C>, diagram: &Diagram, slot: &Slot, nod
     requires room { 4 ≤ work.old.spare }
     ensures { GrowsByFour C.ring work.old work.new result 11529602 }
 {
-    work.sum_out(diagram, &StateCounts::of(diagram), slot, node)
+    work.sum_out(diagram, slot, node)
 }
 
 fn keep_state<C: Cell>(
@@ -154,9 +151,8 @@ fn rows<C: Cell + PartialEq>(
     requires most { 16777216 ≤ C.ring.most }
 {
     let mut work = Workspace::<C>::reserve(alloc, 64)?;
-    let counts = StateCounts::of(diagram);
-    let left = first(&mut work, diagram, &counts, profile, 0);
-    let right = first(&mut work, diagram, &counts, profile, 1);
+    let left = first(&mut work, diagram, profile, 0);
+    let right = first(&mut work, diagram, profile, 1);
     let both = multiply(&mut work, diagram, &[left, right]);
     compare(rt, &work, &both, &[10, 14, 15, 21]);
     let summed = add_up(&mut work, diagram, &[both], 0);

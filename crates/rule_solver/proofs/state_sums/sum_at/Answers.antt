@@ -45,7 +45,7 @@ returns-then-fits_small-clause-sum c =
 
 pub returns-then-fits_small-clause-again : goal.returns-then-fits_small-clause-again
 returns-then-fits_small-clause-again c =
-    λ i. record { small = c.run_at.ensures.again i; wide = c.args.spaces.now.wide; pairs = c.args.spaces.now.pairs; cells = c.args.spaces.now.cells; pair_cells = c.args.spaces.now.pair_cells }
+    λ i. record { small = c.run_at.ensures.again i; wide = c.args.spaces.now.wide; pairs = c.args.spaces.now.pairs; lists = tt; cells = c.args.spaces.now.cells; pair_cells = c.args.spaces.now.pair_cells }
 
 pub run_at-requires-else-fits_small-clause-within : goal.run_at-requires-else-fits_small-clause-within
 run_at-requires-else-fits_small-clause-within c = c.requires.within
@@ -74,4 +74,4 @@ returns-clause-sum c =
 
 pub returns-clause-again : goal.returns-clause-again
 returns-clause-again c =
-    λ i. record { small = c.args.spaces.now.small; wide = c.run_at-else-fits_small.ensures.again i; pairs = c.args.spaces.now.pairs; cells = c.args.spaces.now.cells; pair_cells = c.args.spaces.now.pair_cells }
+    λ i. record { small = c.args.spaces.now.small; wide = c.run_at-else-fits_small.ensures.again i; pairs = c.args.spaces.now.pairs; lists = tt; cells = c.args.spaces.now.cells; pair_cells = c.args.spaces.now.pair_cells }

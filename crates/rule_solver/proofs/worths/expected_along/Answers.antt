@@ -46,7 +46,7 @@ returns-clause-gains c =
 pub returns-clause-again : goal.returns-clause-again
 returns-clause-again c =
     let again = c.in_ok-worths.ensures.again in
-    λ i. record { small = again.0 i; wide = again.1 i; pairs = c.args.spaces.now.pairs; cells = c.args.spaces.now.cells; pair_cells = c.args.spaces.now.pair_cells }
+    λ i. record { small = again.0 i; wide = again.1 i; pairs = c.args.spaces.now.pairs; lists = tt; cells = c.args.spaces.now.cells; pair_cells = c.args.spaces.now.pair_cells }
 
 pub list_worths-requires-clause-profile : goal.list_worths-requires-clause-profile
 list_worths-requires-clause-profile c = c.requires.profile

@@ -80,7 +80,7 @@ loop-place-preserved c =
     ]) in (
       subst (λ (l : List ℕ). HasGoals d.nodes p c.args.self.now.decision l c.add_goal.new.gains) (sym (take_more goals c.loop-place.place 0 c.loop-place-test.true))
           (goals_more d.nodes p c.args.self.now.decision (take c.loop-place.place goals) (u ∷ []) c.loop-place.gains c.add_goal.new.gains small c.loop-place.invariant.0 c.in_ok-add_goal.ensures.adds),
-      (λ i. record { small = c.in_ok-add_goal.ensures.again.0 i; wide = c.in_ok-add_goal.ensures.again.1 i; pairs = c.loop-place.spaces.pairs; cells = c.loop-place.spaces.cells; pair_cells = c.loop-place.spaces.pair_cells }) ∙ c.loop-place.invariant.1,
+      (λ i. record { small = c.in_ok-add_goal.ensures.again.0 i; wide = c.in_ok-add_goal.ensures.again.1 i; pairs = c.loop-place.spaces.pairs; lists = tt; cells = c.loop-place.spaces.cells; pair_cells = c.loop-place.spaces.pair_cells }) ∙ c.loop-place.invariant.1,
       c.add_goal.ensures.len ∙ c.loop-place.invariant.2,
     )
 
@@ -101,7 +101,7 @@ add_together-requires-clause-none c = c.requires.none
 
 pub loop-place-init : goal.loop-place-init
 loop-place-init c =
-    (c.in_ok-added.ensures.gains, (λ i. record { small = c.args.spaces.now.small; wide = c.args.spaces.now.wide; pairs = c.in_ok-added.ensures.again i; cells = c.args.spaces.now.cells; pair_cells = c.args.spaces.now.pair_cells }), c.add_together.ensures.len)
+    (c.in_ok-added.ensures.gains, (λ i. record { small = c.args.spaces.now.small; wide = c.args.spaces.now.wide; pairs = c.in_ok-added.ensures.again i; lists = tt; cells = c.args.spaces.now.cells; pair_cells = c.args.spaces.now.pair_cells }), c.add_together.ensures.len)
 
 pub bounds-goals-place : goal.bounds-goals-place
 bounds-goals-place c = c.loop-place-test.true
