@@ -1,5 +1,5 @@
 -- The choice of a row, improved: the walk over the states, row by row, and gains that compare alike.
-use Rattle.std.proofs.Common.{◌≡◌, ◌∙◌, ◌⊎◌, ◌↔◌, ℕ, ◌+◌, ◌<◌, ◌≤◌, List, [], ◌∷◌, ◌++◌, All, None, length, length-append, slice_index_or, refl, sym, ap, subst, inl, inr, arith, pos, ℤ, ◌≤ℤ◌, ◌<ℤ◌}
+use Rattle.std.proofs.Common.{◌≡◌, ◌∙◌, ◌⊎◌, ◌↔◌, ℕ, ◌+◌, ◌<◌, List, [], ◌∷◌, ◌++◌, All, None, length, length-append, slice_index_or, refl, sym, ap, subst, inl, inr, arith, pos, ℤ, ◌≤ℤ◌, ◌<ℤ◌}
 use Rattle.std.proofs.lemmas.List.{get_or_append_left}
 use Rattle.std.proofs.lemmas.List.Elements.{All-push}
 use Rattle.std.proofs.Math.Decide.{ℕ_discrete}
@@ -19,7 +19,7 @@ greater x y n = go (compare y x)
     go (inl h) = absurd (n h)
     go (inr h) = h
 
-not_most : (x y : ℤ) → x <ℤ y → (y ≤ℤ x) → ⊥
+pub not_most : (x y : ℤ) → x <ℤ y → (y ≤ℤ x) → ⊥
 not_most x y h k = omega (arith, ints)
 
 -- the gains of the states compare alike

@@ -7,3 +7,4 @@ mod Owners
 mod Spent
 mod OneOutcome
 mod Kept
+mod Settled

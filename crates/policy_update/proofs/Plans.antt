@@ -289,7 +289,7 @@ module _ (nodes : List NodeView) (law : ChoicesOfAnswers) (answers : List Answer
 abbrev first_answer : List NodeView → ℕ → AnswerView
 first_answer nodes v = record { decision = v; rows = replicate (rows_of nodes v) no_row }
 
-map_like : (f g : ℕ → RuleView) (vs : List ℕ) → ((v : ℕ) → Among v vs → f v ≡ g v) → map f vs ≡ map g vs
+pub map_like : (f g : ℕ → RuleView) (vs : List ℕ) → ((v : ℕ) → Among v vs → f v ≡ g v) → map f vs ≡ map g vs
 map_like f g [] h = refl
 map_like f g (v ∷ vs) h = λ i. h v (inl refl) i ∷ map_like f g vs (λ u m. h u (inr m)) i
 

@@ -5,8 +5,10 @@ use Rattle.maid_model.specs.declared.answers.Row.{Row}
 use Rattle.maid_model.specs.declared.limits.TheConstants.{MOST_PLAN_CELLS}
 use Rattle.maid_model.specs.Answers.{AreChoices, no_row, pure_profile}
 use Rattle.maid_model.specs.Gains.{gain_at, gain_in}
-use Rattle.maid_model.specs.Nodes.{decisions_of, rows_of, states_of}
+use Rattle.maid_model.specs.Nodes.{IsDecision, decisions_of, rows_of, states_of}
 use Rattle.maid_model.specs.Views.{NodeView, RuleView, AnswerView}
+use Rattle.node_sets.specs.declared.sets.NodeSet.{NodeSet}
+use Rattle.node_sets.specs.Sets.{IsIn}
 use Rattle.reach_laws.specs.Updates.{IsImproved, IsReachedAfter, IsStep, IsUpdated}
 use Rattle.rule_solver.specs.Rooms.{HasRoomForRun}
 use Rattle.size_precheck.specs.declared.runs.RunPlans.{RunPlans}
@@ -65,6 +67,11 @@ ImprovesOrKeeps nodes p a rows =
 -- the decision at the place in text order is improved
 abbrev pub IsStepAt : List NodeView → ℕ → List RuleView → List RuleView → Type 0
 IsStepAt nodes place p q = IsStep nodes p (slice_index_or (decisions_of nodes) place 0) q
+
+-- each decision outside the set is settled: where it is improved, with all other rules as they stand, it stays
+abbrev pub AreSettledBut : List NodeView → List RuleView → NodeSet → Type 0
+AreSettledBut nodes p unsettled =
+    (d : ℕ) → IsDecision nodes d → (IsIn unsettled d → ⊥) → IsStep nodes p d p
 
 -- the first state in each row of each decision
 abbrev pub first_choices : List NodeView → List AnswerView

@@ -1,10 +1,11 @@
 //! What is kept from round to round.
 
-ghost use Rattle.std.specs.Prelude.{◌≡◌, IfOk};
+ghost use Rattle.std.specs.Prelude.{◌≡◌, ◌<◌, IfOk};
 ghost use Rattle.std.specs.List.{AllZip};
 ghost use Rattle.maid_laws.specs.Optimum.{IsPure};
 ghost use Rattle.maid_model.specs.Nodes.{decisions_of};
-ghost use Rattle.policy_update.specs.Kept.{IsKept, IsScopeOf};
+ghost use Rattle.node_sets.specs.declared.sets.TheConstants.{MOST_NODES};
+ghost use Rattle.policy_update.specs.Kept.{AddsAffected, AreDecisionsAndScopes, IsKept, IsScopeOf};
 ghost use Rattle.size_precheck.specs.Decisions.{ArePlans};
 
 use maid_model::{Diagram, Profile};
@@ -18,7 +19,9 @@ use weight_scale::decision_scope;
 /// the total of a pure rule is 1.
 #[derive(Drop)]
 pub(crate) struct Kept<'a> {
-    /// The plans of the decisions in text order.
+    /// The decisions in text order.
+    pub decisions: &'a [usize],
+    /// Their plans.
     pub plans: &'a [DecisionPlans],
     /// Their scopes.
     pub scopes: Vec<NodeSet>,
@@ -48,7 +51,7 @@ impl<'a> Kept<'a> {
     pub(crate) fn new(
         alloc: Global,
         diagram: &Diagram,
-        decisions: &[usize],
+        decisions: &'a [usize],
         profile: &Profile,
         plans: &'a [DecisionPlans],
     ) -> Result<Kept<'a>, AllocError>
@@ -58,9 +61,23 @@ impl<'a> Kept<'a> {
         ensures { IfOk result (IsKept diagram.now.nodes) }
     {
         Ok(Kept {
+            decisions,
             plans,
             scopes: list_scopes(alloc, diagram, decisions)?,
             totals: list_totals(alloc, diagram, profile)?,
         })
+    }
+
+    /// Adds the decisions whose scope has this one to the set: what their states gain may look at its rule.
+    pub(crate) fn add_affected(&self, decision: usize, set: &mut NodeSet)
+        requires lists { AreDecisionsAndScopes self.now }
+        requires decision { decision < MOST_NODES }
+        ensures { AddsAffected self.now decision set.old set.new }
+    {
+        for place in 0..self.scopes.len() {
+            if self.scopes[place].holds(decision) {
+                set.insert(self.decisions[place]);
+            }
+        }
     }
 }

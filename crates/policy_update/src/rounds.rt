@@ -8,11 +8,12 @@ ghost use Rattle.maid_model.specs.Scopes.{KeepsScopedBounds};
 ghost use Rattle.maid_model.specs.Subgames.{OwnsAll};
 ghost use Rattle.reach_laws.specs.Updates.{IsUpdateRound, start_profile};
 ghost use Rattle.policy_update.specs.Kept.{AreKept};
-ghost use Rattle.policy_update.specs.Steps.{EndsAt, ImprovesOrKeeps, IsProfileOf, IsStepAt, TellsChange};
+ghost use Rattle.policy_update.specs.Steps.{AreSettledBut, EndsAt, ImprovesOrKeeps, IsProfileOf, IsStepAt, TellsChange};
 
 use crate::keeping::Kept;
 use crate::rows::{improved_rows, keep_choices};
 use maid_model::{Answer, Diagram, Profile, Row, Rule, profile_has_rules};
+use node_sets::NodeSet;
 use part_laws::{parts_decide, scopes_are_parts};
 use reach_laws::pure_profiles_listed;
 use rule_solver::{Setting, Workspaces};
@@ -92,12 +93,54 @@ fn improve(
     }
 }
 
+/// Improves the decision at a place in text order where it isn't settled: where it is, nothing that its gains look at has
+/// changed since it was improved. Tells whether a row's choice changed; then the decisions whose scope has this one are
+/// no longer settled.
+fn settle(
+    alloc: Global,
+    diagram: &Diagram,
+    profile: &mut Profile,
+    answers: &mut [Answer],
+    unsettled: &mut NodeSet,
+    place: usize,
+    kept: &Kept,
+    spaces: &mut Workspaces,
+) -> Result<bool, AllocError>
+    requires bound { KeepsScopedBounds diagram.now }
+    requires kept { AreKept diagram.now.nodes kept.now spaces.old }
+    requires plan { IsProfileOf diagram.now.nodes answers.old profile.old }
+    requires settled { AreSettledBut diagram.now.nodes profile.old unsettled.old }
+    requires place { place < length answers.old }
+    ensures plan { OnOk result (IsProfileOf diagram.now.nodes answers.new profile.new) }
+    ensures settled { OnOk result (AreSettledBut diagram.now.nodes profile.new unsettled.new) }
+    ensures again { OnOk result (spaces.new ≡ spaces.old) }
+    ensures step { OnOk result (IsStepAt diagram.now.nodes place profile.old profile.new) }
+    ensures changed { IfOk result (λ changed. TellsChange changed profile.old profile.new) }
+{
+    pure_profiles_listed();
+    // Gains look at the rules of the scope alone.
+    scopes_are_parts();
+    parts_decide();
+    let _count = diagram.count();
+    let decision = kept.decisions[place];
+    if !unsettled.holds(decision) {
+        return Ok(false);
+    }
+    let changed = improve(alloc, diagram, profile, answers, place, kept, spaces)?;
+    if changed {
+        kept.add_affected(decision, unsettled);
+    }
+    unsettled.remove(decision);
+    Ok(changed)
+}
+
 /// Goes through the decisions once, and tells whether the round raised.
 fn go_round(
     alloc: Global,
     diagram: &Diagram,
     profile: &mut Profile,
     answers: &mut [Answer],
+    unsettled: &mut NodeSet,
     kept: &Kept,
     spaces: &mut Workspaces,
 ) -> Result<bool, AllocError>
@@ -105,7 +148,9 @@ fn go_round(
     requires kept { AreKept diagram.now.nodes kept.now spaces.old }
     requires owner { (agent : ℕ) × OwnsAll diagram.now.nodes agent }
     requires plan { IsProfileOf diagram.now.nodes answers.old profile.old }
+    requires settled { AreSettledBut diagram.now.nodes profile.old unsettled.old }
     ensures plan { OnOk result (IsProfileOf diagram.now.nodes answers.new profile.new) }
+    ensures settled { OnOk result (AreSettledBut diagram.now.nodes profile.new unsettled.new) }
     ensures again { OnOk result (spaces.new ≡ spaces.old) }
     ensures round { OnOk result (IsUpdateRound diagram.now.nodes profile.old profile.new) }
     ensures raised { IfOk result (λ raised. TellsChange raised profile.old profile.new) }
@@ -114,7 +159,9 @@ fn go_round(
     let _count = diagram.count();
     let mut raised = false;
     for place in 0..answers.len() {
-        let changed = improve(alloc, diagram, profile, answers, place, kept, spaces)?;
+        let changed = settle(
+            alloc, diagram, profile, answers, unsettled, place, kept, spaces,
+        )?;
         if changed {
             raised = true;
         }
@@ -123,7 +170,7 @@ fn go_round(
 }
 
 /// Goes through so many rounds, or to the first that does not raise, and tells how many raised before that one.
-pub(crate) fn settle(
+pub(crate) fn go_rounds(
     alloc: Global,
     diagram: &Diagram,
     profile: &mut Profile,
@@ -141,8 +188,19 @@ pub(crate) fn settle(
     ensures again { OnOk result (spaces.new ≡ spaces.old) }
     ensures settled { IfOk result (EndsAt diagram.now.nodes rounds profile.new) }
 {
+    let _count = diagram.count();
+    let mut unsettled = NodeSet::empty();
+    unsettled.insert_all(kept.decisions);
     for raised in 0..rounds {
-        if !go_round(alloc, diagram, profile, answers, kept, spaces)? {
+        if !go_round(
+            alloc,
+            diagram,
+            profile,
+            answers,
+            &mut unsettled,
+            kept,
+            spaces,
+        )? {
             return Ok(Some(raised));
         }
     }

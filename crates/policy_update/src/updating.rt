@@ -12,7 +12,7 @@ ghost use Rattle.policy_update.specs.Updated.{IsLocallyOptimal, IsUpdateOf, Roun
 use crate::UpdateFault;
 use crate::keeping::Kept;
 use crate::limits::{keep_bound, keep_one_owner, keep_sizes};
-use crate::rounds::settle;
+use crate::rounds::go_rounds;
 use crate::starting::first_choices;
 use maid_model::{Answer, Diagram, Profile, Ratio};
 use reach_laws::{local_optimum, pure_profiles_listed, round_raises};
@@ -73,7 +73,7 @@ fn update_within(
     let mut profile = Profile::pure(alloc, diagram, &answers)?;
     let kept = Kept::new(alloc, diagram, decisions, &profile, &run.decisions)?;
     let mut spaces = Workspaces::reserve(alloc, run.size.cells as usize)?;
-    let settled = settle(
+    let settled = go_rounds(
         alloc,
         diagram,
         &mut profile,
@@ -105,9 +105,10 @@ fn update_within(
 /// does not. No other rule of any one decision is worth more to the agent.
 ///
 /// All plans are made once and kept, with the decisions' scopes and the totals of all nodes, and the workspaces are
-/// reserved once, with room for the most cells of a plan. A round asks `rule_solver::Setting::row_gains` once for each
-/// decision, which runs the plans of the decision's goals, and takes memory for new rows only where a choice changes; at
-/// the end `rule_solver::expected_along` runs the plan of each utility.
+/// reserved once, with room for the most cells of a plan. The first round asks `rule_solver::Setting::row_gains` for each
+/// decision, which runs the plans of the decision's goals; later ones ask only for those in whose scope a choice changed
+/// since they were asked for. A round takes memory for new rows only where a choice changes. At the end
+/// `rule_solver::expected_along` runs the plan of each utility.
 ///
 /// # Errors
 ///

@@ -16,17 +16,17 @@ use Rattle.policy_update.proofs.rounds.go_round.Goals as goal
 use Rattle.policy_update.proofs.rounds.go_round.Goals.{then-changed, else-changed}
 
 pub loop-place-init : goal.loop-place-init
-loop-place-init c = (c.requires.plan, Over, (λ agent owns. refl), refl)
+loop-place-init c = (c.requires.plan, c.requires.settled, Over, (λ agent owns. refl), refl)
 
-pub improve-requires-clause-kept : goal.improve-requires-clause-kept
-improve-requires-clause-kept c = subst (AreKept c.args.diagram.now.nodes c.args.kept.now) (sym c.loop-place.invariant.3) c.requires.kept
+pub settle-requires-clause-kept : goal.settle-requires-clause-kept
+settle-requires-clause-kept c = subst (AreKept c.args.diagram.now.nodes c.args.kept.now) (sym c.loop-place.invariant.4) c.requires.kept
 
 -- one step more
 pub loop-place-preserved : goal.loop-place-preserved
 loop-place-preserved c =
     let nodes = c.args.diagram.now.nodes in
     let p = c.loop-place.profile in
-    let q = c.improve.new.profile in
+    let q = c.settle.new.profile in
     let plan : IsProfileOf nodes c.loop-place.answers p = c.loop-place.invariant.0 in
     let pure : IsPure nodes p = plan_pure nodes c.pure_profiles_listed.ensures.choices c.loop-place.answers p plan in
     let whole : length c.args.answers.now ≡ length (decisions_of nodes) = sym (length-map c.args.answers.now (λ (a : AnswerView). a.decision)) ∙ ap length c.requires.plan.choices.follow in
@@ -37,25 +37,33 @@ loop-place-preserved c =
     let rises : (agent : ℕ) → OwnsAll nodes agent → (p ≡ q) ⊎ (gain_of nodes p agent <ℤ gain_of nodes q agent) =
     (λ agent owns. subst (λ a. (p ≡ q) ⊎ (gain_of nodes p a <ℤ gain_of nodes q a)) (owns d k) (step_cases nodes is.graph is.tables p q d k pure c.in_ok-changed.ensures.step)) in (
       c.in_ok-changed.ensures.plan,
-      subst (λ ds. IsPass nodes ds c.args.profile.now q) (sym (take_more (decisions_of nodes) c.loop-place.place 0 place)) (pass_more nodes q d c.loop-place.invariant.1 c.in_ok-changed.ensures.step),
+      c.in_ok-changed.ensures.settled,
+      subst (λ ds. IsPass nodes ds c.args.profile.now q) (sym (take_more (decisions_of nodes) c.loop-place.place 0 place)) (pass_more nodes q d c.loop-place.invariant.2 c.in_ok-changed.ensures.step),
       elim c.if-changed.branch [
-        | then-changed w ↦ (λ agent owns. rises_more nodes agent c.loop-place.raised c.in_ok-changed.changed c.if-changed.raised c.args.profile.now p q (λ e. w.raised-is) (λ e. w.raised-is ∙ sym w.if-changed.true) (c.loop-place.invariant.2 agent owns) c.in_ok-changed.ensures.changed (rises agent owns))
-        | else-changed w ↦ (λ agent owns. rises_more nodes agent c.loop-place.raised c.in_ok-changed.changed c.if-changed.raised c.args.profile.now p q (λ e. w.raised-is ∙ e) (λ e. w.raised-is ∙ e ∙ sym w.if-changed.false) (c.loop-place.invariant.2 agent owns) c.in_ok-changed.ensures.changed (rises agent owns))
+        | then-changed w ↦ (λ agent owns. rises_more nodes agent c.loop-place.raised c.in_ok-changed.changed c.if-changed.raised c.args.profile.now p q (λ e. w.raised-is) (λ e. w.raised-is ∙ sym w.if-changed.true) (c.loop-place.invariant.3 agent owns) c.in_ok-changed.ensures.changed (rises agent owns))
+        | else-changed w ↦ (λ agent owns. rises_more nodes agent c.loop-place.raised c.in_ok-changed.changed c.if-changed.raised c.args.profile.now p q (λ e. w.raised-is ∙ e) (λ e. w.raised-is ∙ e ∙ sym w.if-changed.false) (c.loop-place.invariant.3 agent owns) c.in_ok-changed.ensures.changed (rises agent owns))
       ],
-      c.in_ok-changed.ensures.again ∙ c.loop-place.invariant.3,
+      c.in_ok-changed.ensures.again ∙ c.loop-place.invariant.4,
     )
 
 pub returns-clause-raised : goal.returns-clause-raised
-returns-clause-raised c = rises_tell c.args.diagram.now.nodes c.requires.owner.0 c.loop-place.raised c.args.profile.now c.loop-place.profile (c.loop-place.invariant.2 c.requires.owner.0 c.requires.owner.1)
+returns-clause-raised c = rises_tell c.args.diagram.now.nodes c.requires.owner.0 c.loop-place.raised c.args.profile.now c.loop-place.profile (c.loop-place.invariant.3 c.requires.owner.0 c.requires.owner.1)
 
-pub improve-requires-clause-bound : goal.improve-requires-clause-bound
-improve-requires-clause-bound c = c.requires.bound
+pub settle-requires-clause-bound : goal.settle-requires-clause-bound
+settle-requires-clause-bound c = c.requires.bound
 
-pub improve-requires-clause-plan : goal.improve-requires-clause-plan
-improve-requires-clause-plan c = c.loop-place.invariant.0
+pub settle-requires-clause-plan : goal.settle-requires-clause-plan
+settle-requires-clause-plan c = c.loop-place.invariant.0
 
 pub returns-clause-plan : goal.returns-clause-plan
 returns-clause-plan c = c.loop-place.invariant.0
 
 pub returns-clause-again : goal.returns-clause-again
-returns-clause-again c = c.loop-place.invariant.3
+returns-clause-again c = c.loop-place.invariant.4
+
+-- ---- what is settled
+pub settle-requires-clause-settled : goal.settle-requires-clause-settled
+settle-requires-clause-settled c = c.loop-place.invariant.1
+
+pub returns-clause-settled : goal.returns-clause-settled
+returns-clause-settled c = c.loop-place.invariant.1

@@ -20,13 +20,13 @@ use Rattle.policy_update.specs.Faults.{rounds_pass, update_fault}
 use Rattle.std.proofs.lemmas.Result.{IfOk-from_err}
 use Rattle.policy_update.proofs.updating.update_within.Goals as goal
 
-pub settle-requires-clause-plan : goal.settle-requires-clause-plan
-settle-requires-clause-plan c =
+pub go_rounds-requires-clause-plan : goal.go_rounds-requires-clause-plan
+go_rounds-requires-clause-plan c =
     first_plan c.args.diagram.now.nodes c.count-count.ensures.diagram.graph c.deref_mut.result.now c.in_ok-profile.profile (c.deref_mut.ensures.value ∙ c.in_ok-answers.ensures)
     (c.in_ok-profile.ensures.rules ∙ ap (pure_profile c.args.diagram.now.nodes) (c.deref.ensures.value ∙ sym c.deref_mut.ensures.value))
 
-pub settle-requires-clause-start : goal.settle-requires-clause-start
-settle-requires-clause-start c =
+pub go_rounds-requires-clause-start : goal.go_rounds-requires-clause-start
+go_rounds-requires-clause-start c =
     c.in_ok-profile.ensures.rules ∙ ap (pure_profile c.args.diagram.now.nodes) (c.deref.ensures.value ∙ c.in_ok-answers.ensures) ∙ first_start c.args.diagram.now.nodes c.count-count.ensures.diagram.graph
 
 pub new-requires-clause-decisions : goal.new-requires-clause-decisions
@@ -44,8 +44,8 @@ new-requires-clause-planned c = subst (ArePlans c.args.diagram.now.nodes (decisi
 pub reserve-requires : goal.reserve-requires
 reserve-requires c = c.requires.run.limit
 
-pub settle-requires-clause-kept : goal.settle-requires-clause-kept
-settle-requires-clause-kept c = record {
+pub go_rounds-requires-clause-kept : goal.go_rounds-requires-clause-kept
+go_rounds-requires-clause-kept c = record {
   is_kept = c.in_ok-kept.ensures;
   cells = c.args.run.now.size.cells;
   ready = c.in_ok-spaces.ensures;
@@ -60,38 +60,38 @@ expected_along-requires-clause-ready c = (
 )
 
 pub expected_along-requires-clause-profile : goal.expected_along-requires-clause-profile
-expected_along-requires-clause-profile c = (plan_pure c.args.diagram.now.nodes c.pure_profiles_listed.ensures.choices c.settle.new.answers c.settle.new.profile c.in_ok-settled.ensures.plan).profile
+expected_along-requires-clause-profile c = (plan_pure c.args.diagram.now.nodes c.pure_profiles_listed.ensures.choices c.go_rounds.new.answers c.go_rounds.new.profile c.in_ok-settled.ensures.plan).profile
 
 pub expected_along-requires-clause-pure : goal.expected_along-requires-clause-pure
-expected_along-requires-clause-pure c = (plan_pure c.args.diagram.now.nodes c.pure_profiles_listed.ensures.choices c.settle.new.answers c.settle.new.profile c.in_ok-settled.ensures.plan).total
+expected_along-requires-clause-pure c = (plan_pure c.args.diagram.now.nodes c.pure_profiles_listed.ensures.choices c.go_rounds.new.answers c.go_rounds.new.profile c.in_ok-settled.ensures.plan).total
 
 pub returns-in-Some-clause-rows : goal.returns-in-Some-clause-rows
 returns-in-Some-clause-rows c p reached =
     let nodes = c.args.diagram.now.nodes in
-    let settled : IsSettled nodes c.args.rounds c.settle.new.profile c.in-Some.raised = subst (EndsAt nodes c.args.rounds c.settle.new.profile) c.in-Some.is c.in_ok-settled.ensures.settled in
+    let settled : IsSettled nodes c.args.rounds c.go_rounds.new.profile c.in-Some.raised = subst (EndsAt nodes c.args.rounds c.go_rounds.new.profile) c.in-Some.is c.in_ok-settled.ensures.settled in
     let is = c.count-count.ensures.diagram in
-    never_reached nodes is.graph is.tables c.requires.owner.0 c.requires.owner.1 c.round_raises.ensures.exists c.in-Some.raised c.args.rounds c.settle.new.profile p settled.updated settled.before reached
+    never_reached nodes is.graph is.tables c.requires.owner.0 c.requires.owner.1 c.round_raises.ensures.exists c.in-Some.raised c.args.rounds c.go_rounds.new.profile p settled.updated settled.before reached
 
 pub owner-requires-clause-some : goal.owner-requires-clause-some
 owner-requires-clause-some c =
     let nodes = c.args.diagram.now.nodes in
-    let reached : IsReachedAfter nodes c.args.rounds c.settle.new.profile = subst (EndsAt nodes c.args.rounds c.settle.new.profile) c.in-None.is c.in_ok-settled.ensures.settled in
-    subst (λ ds. 0 < length ds) (sym c.requires.decisions) (some_decision nodes c.args.rounds c.settle.new.profile c.requires.some reached)
+    let reached : IsReachedAfter nodes c.args.rounds c.go_rounds.new.profile = subst (EndsAt nodes c.args.rounds c.go_rounds.new.profile) c.in-None.is c.in_ok-settled.ensures.settled in
+    subst (λ ds. 0 < length ds) (sym c.requires.decisions) (some_decision nodes c.args.rounds c.go_rounds.new.profile c.requires.some reached)
 
 -- the owner's expected utility after the last round
 pub returns-in-None-clause-rows : goal.returns-in-None-clause-rows
 returns-in-None-clause-rows c =
     let d = c.args.diagram.now in
-    let reached : IsReachedAfter d.nodes c.args.rounds c.settle.new.profile = subst (EndsAt d.nodes c.args.rounds c.settle.new.profile) c.in-None.is c.in_ok-settled.ensures.settled in
-    let some : 0 < length c.args.decisions.now = subst (λ ds. 0 < length ds) (sym c.requires.decisions) (some_decision d.nodes c.args.rounds c.settle.new.profile c.requires.some reached) in
+    let reached : IsReachedAfter d.nodes c.args.rounds c.go_rounds.new.profile = subst (EndsAt d.nodes c.args.rounds c.go_rounds.new.profile) c.in-None.is c.in_ok-settled.ensures.settled in
+    let some : 0 < length c.args.decisions.now = subst (λ ds. 0 < length ds) (sym c.requires.decisions) (some_decision d.nodes c.args.rounds c.go_rounds.new.profile c.requires.some reached) in
     let first = decision_at d.nodes c.args.decisions.now 0 c.requires.decisions some in (
       refl,
       record {
-        profile = c.settle.new.profile;
+        profile = c.go_rounds.new.profile;
         reached = reached;
         owner = c.owner.result;
         owns = subst (OwnsAll d.nodes) (sym c.owner.ensures.owner) (owns_like d.nodes c.requires.owner.0 (slice_index c.args.decisions.now 0) c.requires.owner.1 first);
-        expected = subst (IsExpectedUtility d.nodes (10 ^ d.decimals) c.settle.new.profile c.owner.result) (sym c.index.ensures) (c.in_ok-gains.ensures.gains.each c.owner.result c.index.result.now c.owner.ensures.within);
+        expected = subst (IsExpectedUtility d.nodes (10 ^ d.decimals) c.go_rounds.new.profile c.owner.result) (sym c.index.ensures) (c.in_ok-gains.ensures.gains.each c.owner.result c.index.result.now c.owner.ensures.within);
       },
     )
 
@@ -103,9 +103,9 @@ pub returns-in-Some-clause-ok : goal.returns-in-Some-clause-ok
 returns-in-Some-clause-ok c =
     let d = c.args.diagram.now in
     let plan = c.in_ok-settled.ensures.plan in
-    let settled : IsSettled d.nodes c.args.rounds c.settle.new.profile c.in-Some.raised = subst (EndsAt d.nodes c.args.rounds c.settle.new.profile) c.in-Some.is c.in_ok-settled.ensures.settled in
-    let back = sym (answers_back c.in_ok-answers.answers.len c.settle.new.answers c.in_ok-answers.answers.items (c.settle.auto.answers ∙ c.deref_mut.ensures.len) (sym c.in_ok-answers.answers.ok.0)) in
-    let rules : c.settle.new.profile ≡ pure_profile d.nodes _ = plan.rules ∙ ap (pure_profile d.nodes) back in
+    let settled : IsSettled d.nodes c.args.rounds c.go_rounds.new.profile c.in-Some.raised = subst (EndsAt d.nodes c.args.rounds c.go_rounds.new.profile) c.in-Some.is c.in_ok-settled.ensures.settled in
+    let back = sym (answers_back c.in_ok-answers.answers.len c.go_rounds.new.answers c.in_ok-answers.answers.items (c.go_rounds.auto.answers ∙ c.deref_mut.ensures.len) (sym c.in_ok-answers.answers.ok.0)) in
+    let rules : c.go_rounds.new.profile ≡ pure_profile d.nodes _ = plan.rules ∙ ap (pure_profile d.nodes) back in
     record {
       choices = subst (AreChoices d.nodes) back plan.choices;
       result = subst (IsUpdated d.nodes c.in-Some.raised) rules settled.updated;
@@ -118,11 +118,11 @@ first_choices-requires c = c.requires.decisions
 pub overflow_cast-run : goal.overflow_cast-run
 overflow_cast-run c = omega (arith, c.requires.run.limit)
 
-pub settle-requires-clause-bound : goal.settle-requires-clause-bound
-settle-requires-clause-bound c = c.requires.bound
+pub go_rounds-requires-clause-bound : goal.go_rounds-requires-clause-bound
+go_rounds-requires-clause-bound c = c.requires.bound
 
-pub settle-requires-clause-owner : goal.settle-requires-clause-owner
-settle-requires-clause-owner c = c.requires.owner
+pub go_rounds-requires-clause-owner : goal.go_rounds-requires-clause-owner
+go_rounds-requires-clause-owner c = c.requires.owner
 
 pub expected_along-requires-clause-planned : goal.expected_along-requires-clause-planned
 expected_along-requires-clause-planned c = subst (ArePlansOfWorths c.args.diagram.now.nodes) (sym c.deref-3.ensures.value) c.requires.run.worths
