@@ -2,7 +2,7 @@
 
 ghost use Rattle.std.specs.Prelude.{ℕ, ◌↔◌, IsTrue};
 ghost use Rattle.node_sets.specs.Sets.{IsIn};
-ghost use Rattle.maid_model.specs.Nodes.{IsDecision, IsUtilityOf};
+ghost use Rattle.maid_model.specs.Nodes.{IsDecision};
 ghost use Rattle.bayes_ball.specs.Finding.{AreAllMarked, FindsGoals};
 ghost use Rattle.bayes_ball.specs.Search.{AllReachGoals};
 
@@ -10,23 +10,6 @@ use crate::goals::family_of;
 use crate::waves::{go_down, go_up};
 use maid_model::Diagram;
 use node_sets::{NodeSet, children_of_any};
-
-/// Those of the nodes that are utilities of the agent.
-fn utilities_among(diagram: &Diagram, agent: usize, nodes: &NodeSet) -> NodeSet
-    ensures { (v : ℕ) → IsIn result v
-        ↔ (IsIn nodes.now v × IsUtilityOf diagram.now.nodes agent v) }
-{
-    let utilities = nodes.intersection(diagram.utilities());
-    let mut among = NodeSet::empty();
-    let mut from = 0;
-    'nodes: while let Some(v) = utilities.first_from(from) {
-        if diagram.is_utility_of(agent, v) {
-            among.insert(v);
-        }
-        from = v + 1;
-    }
-    among
-}
 
 /// Goes on from the nodes below that have not been followed to their children, marks those that are new there and
 /// utilities of the agent, and says whether there was any to follow.
@@ -46,7 +29,7 @@ fn find_goals(
     }
     let found = children_of_any(diagram, &fresh).difference(below);
     *followed = followed.union(&fresh);
-    *up = up.union(&utilities_among(diagram, agent, &found));
+    *up = up.union(&diagram.utilities_among(agent, &found));
     *below = below.union(&found);
     true
 }

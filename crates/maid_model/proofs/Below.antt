@@ -43,6 +43,12 @@ utility_is nodes agent v = go (node_at nodes v).kind
     go Chance = ((λ h. absurd (false≢true h)), (λ h. cc))
     go Decision = ((λ h. absurd (false≢true h)), (λ h. cc))
 
+-- tests that pass together are equal
+pub equal_tests : (a b : Bool) → (a ≡ true → b ≡ true) → (b ≡ true → a ≡ true) → a ≡ b
+equal_tests true b f g = sym (f refl)
+equal_tests false true f g = g refl
+equal_tests false false f g = refl
+
 module _ (nodes : List NodeView) (d : ℕ) (goals : NodeSet) (are : (v : ℕ) → IsIn goals v ↔ IsGoal nodes d v) where
   pub goals_are_utilities : MarksUtilities nodes goals
   goals_are_utilities v l m = ((are v).0 m).kind

@@ -1,6 +1,6 @@
 //! Sets of utilities: those of an agent, and those below a decision.
 
-ghost use Rattle.std.specs.Prelude.{◌≡◌, true, ℕ, ◌<◌, ◌↔◌, IsTrue, length};
+ghost use Rattle.std.specs.Prelude.{◌≡◌, ℕ, ◌<◌, ◌↔◌, IsTrue, length};
 ghost use Rattle.node_sets.specs.Sets.{holds, IsIn};
 ghost use Rattle.maid_model.specs.Diagrams.{IsDiagram};
 ghost use Rattle.maid_model.specs.Nodes.{is_utility_of, IsUtilityOf};
@@ -29,25 +29,25 @@ impl Diagram {
             → holds result v ≡ is_utility_of self.now.nodes agent v }
         ensures diagram { IsDiagram self.now }
     {
-        utilities_among(self, agent, self.utilities())
+        self.utilities_among(agent, self.utilities())
     }
-}
 
-/// Those of the nodes that are utilities of the agent.
-fn utilities_among(diagram: &Diagram, agent: usize, nodes: &NodeSet) -> NodeSet
-    requires { (v : ℕ) → IsIn nodes.now v → v < length diagram.now.nodes }
-    ensures { (v : ℕ) → IsIn result v
-        ↔ (IsIn nodes.now v × (is_utility_of diagram.now.nodes agent v ≡ true)) }
-{
-    let mut among = NodeSet::empty();
-    let mut from = 0;
-    'nodes: while let Some(v) = nodes.first_from(from) {
-        if diagram.is_utility_of(agent, v) {
-            among.insert(v);
+    /// Those of the nodes that are utilities of the agent. It takes no memory, and looks at each utility once.
+    pub fn utilities_among(&self, agent: usize, nodes: &NodeSet) -> NodeSet
+        ensures { (v : ℕ) → IsIn result v
+            ↔ (IsIn nodes.now v × IsUtilityOf self.now.nodes agent v) }
+    {
+        let utilities = nodes.intersection(self.utilities());
+        let mut among = NodeSet::empty();
+        let mut from = 0;
+        'nodes: while let Some(v) = utilities.first_from(from) {
+            if self.is_utility_of(agent, v) {
+                among.insert(v);
+            }
+            from = v + 1;
         }
-        from = v + 1;
+        among
     }
-    among
 }
 
 /// The goals of the decision: the utilities of its agent that descend from it.
@@ -58,5 +58,5 @@ pub fn goals_of(diagram: &Diagram, decision: usize) -> NodeSet
     let agent = diagram.agent_of(decision);
     let mut below = descendants(diagram, NodeSet::of(decision));
     below.remove(decision);
-    utilities_among(diagram, agent, &below.intersection(diagram.utilities()))
+    diagram.utilities_among(agent, &below)
 }

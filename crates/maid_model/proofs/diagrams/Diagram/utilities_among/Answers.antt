@@ -4,8 +4,8 @@ use Rattle.node_sets.specs.declared.sets.NodeSet.{NodeSet}
 use Rattle.node_sets.specs.Sets.{IsIn}
 use Rattle.maid_model.specs.Nodes.{IsUtilityOf}
 use Rattle.maid_model.proofs.Indexes.{MembersBelow, member_on, member_more, member_skip, member_end}
-use Rattle.bayes_ball.proofs.nearing.utilities_among.Goals.{then-is_utility_of, else-is_utility_of}
-use Rattle.bayes_ball.proofs.nearing.utilities_among.Goals as goal
+use Rattle.maid_model.proofs.diagrams.Diagram.utilities_among.Goals.{then-is_utility_of, else-is_utility_of}
+use Rattle.maid_model.proofs.diagrams.Diagram.utilities_among.Goals as goal
 
 pub nodes-init : goal.nodes-init
 nodes-init c = record {
@@ -19,7 +19,7 @@ is_utility_of-requires c = ((c.utilities.ensures.nodes c.in-Some.v).0 ((c.inters
 pub nodes-preserved : goal.nodes-preserved
 nodes-preserved c =
     let v = c.in-Some.v in
-    let Is : ℕ → Type 0 = λ u. IsIn c.args.nodes.now u × IsUtilityOf c.args.diagram.now.nodes c.args.agent u in
+    let Is : ℕ → Type 0 = λ u. IsIn c.args.nodes.now u × IsUtilityOf c.args.self.now.nodes c.args.agent u in
     let first = c.in-Some.ensures in
     let there = (c.intersection-utilities.ensures v).0 first.inside in
     let on = member_on Is c.nodes.from v (IsIn c.nodes.among) first.not_before (λ w l k is. first.first w l k ((c.intersection-utilities.ensures w).1 (is.0, (c.utilities.ensures.nodes w).1 (record { within = is.1.within; kind = is.1.kind }))))
@@ -38,5 +38,5 @@ nodes-preserved c =
 
 pub returns : goal.returns
 returns c =
-    member_end (λ u. IsIn c.args.nodes.now u × IsUtilityOf c.args.diagram.now.nodes c.args.agent u) c.nodes.from (IsIn c.nodes.among)
+    member_end (λ u. IsIn c.args.nodes.now u × IsUtilityOf c.args.self.now.nodes c.args.agent u) c.nodes.from (IsIn c.nodes.among)
     (λ w l is. c.in_default.ensures w l ((c.intersection-utilities.ensures w).1 (is.0, (c.utilities.ensures.nodes w).1 (record { within = is.1.within; kind = is.1.kind })))) c.nodes.invariant.members
