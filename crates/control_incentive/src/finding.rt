@@ -43,7 +43,7 @@ pub(crate) fn find(
     let _count = baseline.diagram.count();
     match decide_at(alloc, copy, node, baseline.agent) {
         Ok(chance) => {
-            let found = baseline.gain_with(alloc, copy, kept, left);
+            let found = baseline.gain(alloc, copy, kept, left);
             copy.exchange(node, chance);
             found
         }

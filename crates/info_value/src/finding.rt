@@ -1,6 +1,6 @@
 //! What is found of one arc.
 
-ghost use Rattle.std.specs.Prelude.{◌≡◌, ◌↔◌, IsTrue, IfOk};
+ghost use Rattle.std.specs.Prelude.{◌≡◌, ◌↔◌, IsTrue, IfOk, OnOk};
 ghost use Rattle.diagram_graph.specs.Room.{IsArcTooLarge};
 ghost use Rattle.maid_model.specs.Graph.{Arc};
 ghost use Rattle.maid_model.specs.Nodes.{IsDecision};
@@ -8,7 +8,9 @@ ghost use Rattle.maid_model.specs.Relevance.{IsRequisite};
 ghost use Rattle.optimum_gap.specs.Baselines.{HoldsBaseline};
 ghost use Rattle.info_value.specs.Alone.{CanAsk, HasRoomForArc, IsFoundOfSeen, IsUnseenFoundOf, WouldBeNeeded};
 ghost use Rattle.info_value.specs.Finding.{diagram_with_arc};
+ghost use Rattle.info_value.specs.Shared.{IsShared};
 
+use crate::sharing::Shared;
 use arc_laws::arc_removed;
 use diagram_graph::{AddFault, add_arc, is_too_large, without_arc};
 use maid_model::Diagram;
@@ -34,15 +36,18 @@ fn with(alloc: Global, diagram: &Diagram, from: usize, to: usize) -> Result<Diag
 pub(crate) fn find_seen(
     alloc: Global,
     baseline: &Baseline,
+    shared: &mut Shared,
     needed: bool,
     from: usize,
     to: usize,
 ) -> Result<Found, AllocError>
     requires baseline { HoldsBaseline baseline.now }
+    requires shared { IsShared baseline.now.diagram.now.nodes shared.old }
     requires decision { IsDecision baseline.now.diagram.now.nodes to }
     requires arc { Arc baseline.now.diagram.now.nodes from to }
     requires needed { IsTrue needed ↔ IsRequisite baseline.now.diagram.now.nodes to from }
-    ensures { IfOk result (IsFoundOfSeen baseline.now.diagram.now baseline.now.agent from to) }
+    ensures found { IfOk result (IsFoundOfSeen baseline.now.diagram.now baseline.now.agent from to) }
+    ensures shared { OnOk result (IsShared baseline.now.diagram.now.nodes shared.new) }
 {
     arc_removed();
     edits_keep_scopes();
@@ -51,7 +56,8 @@ pub(crate) fn find_seen(
     }
     let _count = baseline.diagram.count();
     let less = without_arc(alloc, baseline.diagram, from, to)?;
-    baseline.loss(alloc, &less)
+    let kept = shared.keep(alloc, baseline.diagram, &less, to)?;
+    baseline.loss(alloc, &less, Some(&kept), &mut shared.left)
 }
 
 /// What is found of an arc that is not there, whose tail would be needed or not. Where it would, the diagram is copied
@@ -59,16 +65,19 @@ pub(crate) fn find_seen(
 pub(crate) fn find_unseen(
     alloc: Global,
     baseline: &Baseline,
+    shared: &mut Shared,
     would_need: bool,
     from: usize,
     to: usize,
 ) -> Result<Found, AllocError>
     requires baseline { HoldsBaseline baseline.now }
+    requires shared { IsShared baseline.now.diagram.now.nodes shared.old }
     requires asked { CanAsk baseline.now.diagram.now.nodes (from, to) }
     requires absent { Arc baseline.now.diagram.now.nodes from to → ⊥ }
     requires would_need { IsTrue would_need ↔ WouldBeNeeded baseline.now from to }
     ensures found { IfOk result (IsUnseenFoundOf baseline.now from to) }
     ensures graph { IfOk result (HasRoomForArc baseline.now.diagram.now from to) }
+    ensures shared { OnOk result (IsShared baseline.now.diagram.now.nodes shared.new) }
 {
     edits_keep_scopes();
     let _count = baseline.diagram.count();
@@ -79,5 +88,6 @@ pub(crate) fn find_unseen(
         return Ok(Found::Worthless);
     }
     let more = with(alloc, baseline.diagram, from, to)?;
-    baseline.gain(alloc, &more)
+    let kept = shared.keep(alloc, baseline.diagram, &more, to)?;
+    baseline.gain(alloc, &more, Some(&kept), &mut shared.left)
 }

@@ -6,6 +6,7 @@
 mod arcs;
 mod finding;
 mod lines;
+mod sharing;
 
 pub use lines::{InfoLine, info};
 pub use optimum_gap::Found;

@@ -7,9 +7,11 @@ ghost use Rattle.optimum_gap.specs.Baselines.{HoldsBaseline};
 ghost use Rattle.requisite_trim.specs.Needs.{TellsNeeds};
 ghost use Rattle.info_value.specs.Alone.{AppendsArcs, AreInfoLinesOf, AskFor, CanAsk, CanAskAll, CanAskEach, IsInfoLineAlone, StayLinesOf};
 ghost use Rattle.info_value.specs.Lines.{AreInfoLines, HasAskedArcs, TellWorths};
+ghost use Rattle.info_value.specs.Shared.{IsShared};
 
 use crate::arcs::{below, decides, may_see};
 use crate::finding::{find_seen, find_unseen};
+use crate::sharing::Shared;
 use diagram_graph::fix_others;
 use maid_model::{Diagram, Solved, descent_is_tested};
 use optimum_gap::{Baseline, Found, answers_are_baselines};
@@ -30,6 +32,7 @@ pub struct InfoLine {
 fn info_line(
     alloc: Global,
     baseline: &Baseline,
+    shared: &mut Shared,
     requisites: &RequisiteNodes,
     from: usize,
     to: usize,
@@ -37,14 +40,16 @@ fn info_line(
     requires baseline { HoldsBaseline baseline.now }
     requires asked { CanAsk baseline.now.diagram.now.nodes (from, to) }
     requires needs { TellsNeeds baseline.now.diagram.now.nodes to requisites.now }
+    requires shared { IsShared baseline.now.diagram.now.nodes shared.old }
     ensures tail { IfOk result (λ line. line.from ≡ from) }
     ensures head { IfOk result (λ line. line.to ≡ to) }
     ensures line { IfOk result (IsInfoLineAlone baseline.now.diagram.now baseline.now.agent) }
+    ensures shared { OnOk result (IsShared baseline.now.diagram.now.nodes shared.new) }
 {
     let seen = baseline.diagram.parents(to);
     let needed = requisites.has(from);
     if seen.contains(&from) {
-        let found = find_seen(alloc, baseline, needed, from, to)?;
+        let found = find_seen(alloc, baseline, shared, needed, from, to)?;
         Ok(InfoLine {
             from,
             to,
@@ -52,7 +57,7 @@ fn info_line(
             found,
         })
     } else {
-        let found = find_unseen(alloc, baseline, needed, from, to)?;
+        let found = find_unseen(alloc, baseline, shared, needed, from, to)?;
         Ok(InfoLine {
             from,
             to,
@@ -68,19 +73,22 @@ fn push_lines_into(
     lines: &mut Vec<InfoLine>,
     diagram: &Diagram,
     baseline: &Baseline,
+    shared: &mut Shared,
     decision: usize,
 ) -> Result<(), AllocError>
     requires baseline { HoldsBaseline baseline.now }
+    requires shared { IsShared baseline.now.diagram.now.nodes shared.old }
     requires within { decision < length diagram.now.nodes }
     requires asked { CanAskAll diagram.now.nodes baseline.now.diagram.now.nodes decision }
     ensures arcs { OnOk result (AppendsArcs diagram.now decision lines.old.items lines.new.items) }
     ensures lines { OnOk result (StayLinesOf baseline.now lines.old.items lines.new.items) }
+    ensures shared { OnOk result (IsShared baseline.now.diagram.now.nodes shared.new) }
 {
     let below = below(diagram, decision);
     let requisites = RequisiteNodes::of(baseline.diagram, decision);
     for v in 0..diagram.count() {
         if may_see(diagram, &below, decision, v) {
-            lines.push(info_line(alloc, baseline, &requisites, v, decision)?)?;
+            lines.push(info_line(alloc, baseline, shared, &requisites, v, decision)?)?;
         }
     }
     Ok(())
@@ -98,9 +106,13 @@ fn info_lines(
     ensures lines { IfOk result (λ lines. AreInfoLinesOf baseline.now lines.items) }
 {
     let mut lines = Vec::new(alloc);
+    let mut shared = Shared {
+        worths: None,
+        left: None,
+    };
     for v in 0..diagram.count() {
         if decides(diagram, baseline.agent, v) {
-            push_lines_into(alloc, &mut lines, diagram, baseline, v)?;
+            push_lines_into(alloc, &mut lines, diagram, baseline, &mut shared, v)?;
         }
     }
     Ok(lines)
@@ -116,7 +128,8 @@ fn info_lines(
 ///
 /// The optimum of the diagram as it is is the answer's own gain, and one search of the graph tells of all arcs into a
 /// decision. So a line that says `Worthless`, or `TooLarge` for the limits on rules, costs neither a copy nor a search of
-/// its own. Each other line costs one copy of the diagram and one run of the solver.
+/// its own. Each other line costs one copy of the diagram and one run of the solver. The plans of the utilities' worths are
+/// made once, and a run makes those anew to which the line's decision leads. The runs share their workspaces.
 ///
 /// # Errors
 ///

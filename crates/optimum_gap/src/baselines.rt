@@ -1,10 +1,7 @@
 //! Optima of edited diagrams against the optimum before.
 
 ghost use Rattle.std.specs.Prelude.{◌<◌, IfOk, IfSome};
-ghost use Rattle.first_fault.specs.Answers.{Passes};
 ghost use Rattle.maid_model.specs.Subgames.{OwnsAll};
-ghost use Rattle.maid_model.specs.Values.{IsOptimum};
-ghost use Rattle.rule_solver.specs.Faults.{solve_fault, solve_pass};
 ghost use Rattle.rule_solver.specs.Kept.{IsKeptDiagram};
 ghost use Rattle.rule_solver.specs.Rooms.{AreLeft};
 ghost use Rattle.optimum_gap.specs.Baselines.{HaveNearScopes, HoldsBaseline};
@@ -28,16 +25,6 @@ fn refused(fault: SolveFault) -> Result<Found, AllocError>
     }
 }
 
-/// The agent's optimum in a diagram of which nothing is kept, in workspaces of its own.
-fn optimum(alloc: Global, diagram: &Diagram, agent: usize) -> Result<Ratio, SolveFault>
-    requires alone { OwnsAll diagram.now.nodes agent }
-    requires within { agent < diagram.now.agents }
-    ensures rows { Passes solve_fault (solve_pass diagram.now) result }
-    ensures optimum { IfOk result (IsOptimum diagram.now.nodes diagram.now.decimals agent) }
-{
-    optimum_with(alloc, diagram, agent, None, &mut None)
-}
-
 /// A diagram in which one agent decides alone, and its optimum there. Edits of the diagram are compared with it.
 #[derive(Drop)]
 pub struct Baseline<'a> {
@@ -48,28 +35,13 @@ pub struct Baseline<'a> {
 
 impl<'a> Baseline<'a> {
     /// What the agent gains by the edit: its optimum in the edited diagram less the optimum before. The edited diagram
-    /// is solved once; the reason is the solver's where it is refused.
+    /// is solved once; the reason is the solver's where it is refused. What is kept of that diagram is not made again.
+    /// The run takes workspaces that another left, if they have the room, and leaves its own.
     ///
     /// # Errors
     ///
     /// Only where memory runs out.
-    pub fn gain(&self, alloc: Global, edited: &Diagram) -> Result<Found, AllocError>
-        requires baseline { HoldsBaseline self.now }
-        requires alone { OwnsAll edited.now.nodes self.now.agent }
-        requires within { self.now.agent < edited.now.agents }
-        requires near { HaveNearScopes self.now.diagram.now edited.now self.now.agent }
-        ensures { IfOk result (IsGain self.now.diagram.now edited.now self.now.agent) }
-    {
-        self.gain_with(alloc, edited, None, &mut None)
-    }
-
-    /// The same where plans of the edited diagram and searches for its decisions are kept, and are not made again, in
-    /// workspaces that another run has left where they have the room. It leaves its own for the next one.
-    ///
-    /// # Errors
-    ///
-    /// Only where memory runs out.
-    pub fn gain_with(
+    pub fn gain(
         &self,
         alloc: Global,
         edited: &Diagram,
@@ -93,21 +65,32 @@ impl<'a> Baseline<'a> {
         }
     }
 
-    /// What the agent loses by the edit: the optimum before less that in the edited diagram, which is solved once.
+    /// What the agent loses by the edit: the optimum before less that in the edited diagram, which is solved once. What
+    /// is kept of that diagram is not made again. The run takes workspaces that another left, if they have the room, and
+    /// leaves its own.
     ///
     /// # Errors
     ///
     /// Only where memory runs out.
-    pub fn loss(&self, alloc: Global, edited: &Diagram) -> Result<Found, AllocError>
+    pub fn loss(
+        &self,
+        alloc: Global,
+        edited: &Diagram,
+        kept: Option<&KeptDiagram>,
+        left: &mut Option<Workspaces>,
+    ) -> Result<Found, AllocError>
         requires baseline { HoldsBaseline self.now }
         requires alone { OwnsAll edited.now.nodes self.now.agent }
         requires within { self.now.agent < edited.now.agents }
         requires near { HaveNearScopes self.now.diagram.now edited.now self.now.agent }
-        ensures { IfOk result (IsLoss self.now.diagram.now edited.now self.now.agent) }
+        requires kept { IfSome kept (λ known. IsKeptDiagram edited.now.nodes known.now) }
+        requires left { AreLeft left.old }
+        ensures loss { IfOk result (IsLoss self.now.diagram.now edited.now self.now.agent) }
+        ensures left { AreLeft left.new }
     {
         let _before = self.diagram.count();
         let _after = edited.count();
-        match optimum(alloc, edited, self.agent) {
+        match optimum_with(alloc, edited, self.agent, kept, left) {
             Ok(less) => Ok(Found::Value(difference(self.optimum, less))),
             Err(fault) => refused(fault),
         }

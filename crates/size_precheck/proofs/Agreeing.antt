@@ -28,20 +28,72 @@ use Rattle.size_precheck.specs.Kept.{IsKept, IsKeptRun, KeepsPlans}
 use Rattle.size_precheck.specs.Sizes.{SizedPlan, CanBePlanned, IsMade, IsPlanned, ArePlansOf, made_cells, steps_work, plan_cells, plan_work, goal_list, utility_list}
 use Rattle.size_precheck.proofs.Planning.{scopes_listed}
 
-utility_kind : (kind : Kind) → is_utility kind ≡ true → kind ≡ Utility
+pub utility_kind : (kind : Kind) → is_utility kind ≡ true → kind ≡ Utility
 utility_kind Chance e = absurd (cc)
 utility_kind Decision e = absurd (cc)
 utility_kind Utility e = refl
 
-module _ (nodes others : List NodeView) (k : KeepsPlans nodes others) where
+-- ---- a plan that has the same nodes and first scopes among both
+module _ (nodes others : List NodeView) (count : length others ≡ length nodes) (states : (v : ℕ) → states_of others v ≡ states_of nodes v) where
   states_same : states_of nodes ≡ states_of others
-  states_same = fun_ext (λ v. sym (k.states v))
+  states_same = fun_ext (λ v. sym (states v))
 
+  pub numbers_same : numbers_of nodes ≡ numbers_of others
+  numbers_same = ap (λ n. range_with_len 0 n) (sym count)
+
+  cells_same : counted_cells nodes ≡ counted_cells others
+  cells_same = λ i scope. stopped (nat_product_over (λ u. cond (scope u) (states_same i u) 1) (numbers_same i))
+
+  made_same : (steps : List ℕ) (scopes : List (ℕ → Bool)) → made_cells nodes steps scopes ≡ made_cells others steps scopes
+  made_same [] scopes = refl
+  made_same (v ∷ vs) scopes = λ i. cells_same i (joined_without v (holding v scopes)) + made_same vs (scopes_one v scopes) i
+
+  work_same : (steps : List ℕ) (scopes : List (ℕ → Bool)) → steps_work nodes steps scopes ≡ steps_work others steps scopes
+  work_same [] scopes = refl
+  work_same (v ∷ vs) scopes = λ i. cells_same i (joined_set v scopes) * length (holding v scopes) + work_same vs (scopes_one v scopes) i
+
+  next_there : (Item : ℕ → Type 0) (scopes : List (ℕ → Bool)) (steps : List ℕ) (v : ℕ) → IsNext nodes Item scopes steps v → IsNext others Item scopes steps v
+  next_there Item scopes steps v h = record {
+    remains = h.remains;
+    fewest = λ w r. subst (λ (cells : (ℕ → Bool) → ℕ). cells (joined_set v (scopes_after steps scopes)) ≤ cells (joined_set w (scopes_after steps scopes))) cells_same (h.fewest w r);
+    first = λ w r l. subst (λ (cells : (ℕ → Bool) → ℕ). cells (joined_set v (scopes_after steps scopes)) < cells (joined_set w (scopes_after steps scopes))) cells_same (h.first w r l);
+  }
+
+  module _ (plan : PlanView) (eliminated_same : eliminated_nodes nodes plan ≡ eliminated_nodes others plan) (scopes_same : first_scopes nodes plan ≡ first_scopes others plan) where
+    plan_cells_same : (steps : List ℕ) → plan_cells nodes plan steps ≡ plan_cells others plan steps
+    plan_cells_same steps = λ i. stopped (sum_by (λ s. cells_same i s) (scopes_same i) + made_same steps (scopes_same i) i + cells_same i (has plan.keep))
+
+    plan_work_same : (steps : List ℕ) → plan_work nodes plan steps ≡ plan_work others plan steps
+    plan_work_same steps = λ i. stopped (work_same steps (scopes_same i) i + cells_same i (has plan.keep) * length (scopes_after steps (scopes_same i)))
+
+    order_there : (steps : List ℕ) → IsGreedyOrder nodes plan steps → IsGreedyOrder others plan steps
+    order_there steps h =
+        subst (λ (list : List ℕ). IsGreedy others (Contains list) (first_scopes others plan) steps) eliminated_same
+        (subst (λ scopes. IsGreedy others (Contains (eliminated_nodes nodes plan)) scopes steps) scopes_same
+        (record { each = λ i l. next_there (Contains (eliminated_nodes nodes plan)) (first_scopes nodes plan) _ _ (h.each i l); complete = h.complete }))
+
+    all_there : (steps : List ℕ) → IsOrderOfPlan nodes plan steps → IsOrderOfPlan others plan steps
+    all_there steps h = record {
+      once = h.once;
+      all = λ v. subst (λ (list : List ℕ). Contains steps v ↔ Contains list v) eliminated_same (h.all v);
+    }
+
+    pub made_alike : (made : SizedPlan) → IsMade nodes plan made → IsMade others plan made
+    made_alike made h = record {
+      plan = h.plan;
+      greedy = order_there made.steps h.greedy;
+      order = all_there made.steps h.order;
+      cells = h.cells ∙ plan_cells_same made.steps;
+      work = h.work ∙ plan_work_same made.steps;
+    }
+
+-- ---- all plans, where the others keep what they look at
+module _ (nodes others : List NodeView) (k : KeepsPlans nodes others) where
   parents_same : parents_of nodes ≡ parents_of others
   parents_same = fun_ext (λ v. sym (k.parents v))
 
-  numbers_same : numbers_of nodes ≡ numbers_of others
-  numbers_same = ap (λ n. range_with_len 0 n) (sym k.count)
+  numbers_kept : numbers_of nodes ≡ numbers_of others
+  numbers_kept = numbers_same nodes others k.count k.states
 
   -- ---- the nodes of a plan
   leads_same : (n u v : ℕ) → leads_within nodes n u v ≡ leads_within others n u v
@@ -55,7 +107,7 @@ module _ (nodes others : List NodeView) (k : KeepsPlans nodes others) where
   in_same plan v = λ i. has plan.keep v || (not (sym (k.utility v) i) && list_any (λ t. descends_same v t i) (plan.keep ++ option_to_list plan.utility))
 
   nodes_same : (plan : PlanView) → plan_nodes nodes plan ≡ plan_nodes others plan
-  nodes_same plan = λ i. filter (λ v. in_same plan v i) (numbers_same i)
+  nodes_same plan = λ i. filter (λ v. in_same plan v i) (numbers_kept i)
 
   eliminated_same : (plan : PlanView) → eliminated_nodes nodes plan ≡ eliminated_nodes others plan
   eliminated_same plan = λ i. filter (λ v. not (has plan.keep v)) (nodes_same plan i)
@@ -63,58 +115,15 @@ module _ (nodes others : List NodeView) (k : KeepsPlans nodes others) where
   ruled_same : (plan : PlanView) → ruled_nodes nodes plan ≡ ruled_nodes others plan
   ruled_same plan = λ i. filter (λ v. not (has (option_to_list plan.without) v)) (nodes_same plan i)
 
-  -- ---- its scopes and their cells
+  -- ---- its scopes
   tests_same : (plan : PlanView) → map (family_test nodes) (ruled_nodes nodes plan) ++ map (parents_test nodes) (option_to_list plan.utility) ≡ map (family_test others) (ruled_nodes others plan) ++ map (parents_test others) (option_to_list plan.utility)
   tests_same plan = λ i. map (λ v u. eqb v u || has (parents_same i v) u) (ruled_same plan i) ++ map (λ u x. has (parents_same i u) x) (option_to_list plan.utility)
 
   scopes_same : (plan : PlanView) → first_scopes nodes plan ≡ first_scopes others plan
   scopes_same plan = scopes_listed mass_cells nodes [] plan ∙ tests_same plan ∙ sym (scopes_listed mass_cells others [] plan)
 
-  cells_same : counted_cells nodes ≡ counted_cells others
-  cells_same = λ i scope. stopped (nat_product_over (λ u. cond (scope u) (states_same i u) 1) (numbers_same i))
-
-  made_same : (steps : List ℕ) (scopes : List (ℕ → Bool)) → made_cells nodes steps scopes ≡ made_cells others steps scopes
-  made_same [] scopes = refl
-  made_same (v ∷ vs) scopes = λ i. cells_same i (joined_without v (holding v scopes)) + made_same vs (scopes_one v scopes) i
-
-  work_same : (steps : List ℕ) (scopes : List (ℕ → Bool)) → steps_work nodes steps scopes ≡ steps_work others steps scopes
-  work_same [] scopes = refl
-  work_same (v ∷ vs) scopes = λ i. cells_same i (joined_set v scopes) * length (holding v scopes) + work_same vs (scopes_one v scopes) i
-
-  plan_cells_same : (plan : PlanView) (steps : List ℕ) → plan_cells nodes plan steps ≡ plan_cells others plan steps
-  plan_cells_same plan steps = λ i. stopped (sum_by (λ s. cells_same i s) (scopes_same plan i) + made_same steps (scopes_same plan i) i + cells_same i (has plan.keep))
-
-  plan_work_same : (plan : PlanView) (steps : List ℕ) → plan_work nodes plan steps ≡ plan_work others plan steps
-  plan_work_same plan steps = λ i. stopped (work_same steps (scopes_same plan i) i + cells_same i (has plan.keep) * length (scopes_after steps (scopes_same plan i)))
-
-  -- ---- its order
-  next_there : (Item : ℕ → Type 0) (scopes : List (ℕ → Bool)) (steps : List ℕ) (v : ℕ) → IsNext nodes Item scopes steps v → IsNext others Item scopes steps v
-  next_there Item scopes steps v h = record {
-    remains = h.remains;
-    fewest = λ w r. subst (λ (cells : (ℕ → Bool) → ℕ). cells (joined_set v (scopes_after steps scopes)) ≤ cells (joined_set w (scopes_after steps scopes))) cells_same (h.fewest w r);
-    first = λ w r l. subst (λ (cells : (ℕ → Bool) → ℕ). cells (joined_set v (scopes_after steps scopes)) < cells (joined_set w (scopes_after steps scopes))) cells_same (h.first w r l);
-  }
-
-  order_there : (plan : PlanView) (steps : List ℕ) → IsGreedyOrder nodes plan steps → IsGreedyOrder others plan steps
-  order_there plan steps h =
-      subst (λ (list : List ℕ). IsGreedy others (Contains list) (first_scopes others plan) steps) (eliminated_same plan)
-      (subst (λ scopes. IsGreedy others (Contains (eliminated_nodes nodes plan)) scopes steps) (scopes_same plan)
-      (record { each = λ i l. next_there (Contains (eliminated_nodes nodes plan)) (first_scopes nodes plan) _ _ (h.each i l); complete = h.complete }))
-
-  all_there : (plan : PlanView) (steps : List ℕ) → IsOrderOfPlan nodes plan steps → IsOrderOfPlan others plan steps
-  all_there plan steps h = record {
-    once = h.once;
-    all = λ v. subst (λ (list : List ℕ). Contains steps v ↔ Contains list v) (eliminated_same plan) (h.all v);
-  }
-
   made_there : (plan : PlanView) (made : SizedPlan) → IsMade nodes plan made → IsMade others plan made
-  made_there plan made h = record {
-    plan = h.plan;
-    greedy = order_there plan made.steps h.greedy;
-    order = all_there plan made.steps h.order;
-    cells = h.cells ∙ plan_cells_same plan made.steps;
-    work = h.work ∙ plan_work_same plan made.steps;
-  }
+  made_there plan = made_alike nodes others k.count k.states plan (eliminated_same plan) (scopes_same plan)
 
   -- ---- what may be asked for
   utility_there : (v : ℕ) → (node_at nodes v).kind ≡ Utility → (node_at others v).kind ≡ Utility
@@ -147,7 +156,7 @@ module _ (nodes others : List NodeView) (k : KeepsPlans nodes others) where
 
   -- ---- a decision's plans
   goals_same : (d : ℕ) → IsDecision nodes d → goal_list nodes d ≡ goal_list others d
-  goals_same d is = λ i. filter (λ u. descends_same d u i && owned u i) (numbers_same i)
+  goals_same d is = λ i. filter (λ u. descends_same d u i && owned u i) (numbers_kept i)
     where
       owned : (u : ℕ) → is_utility_of nodes (agent_of nodes d) u ≡ is_utility_of others (agent_of others d) u
       owned u = sym (k.owned (agent_of nodes d) u) ∙ ap (λ a. is_utility_of others a u) (sym (k.agent d is))
@@ -215,7 +224,7 @@ module _ (nodes others : List NodeView) (k : KeepsPlans nodes others) where
   -- the plans of all utilities' worths
   worths_there : (plans : List SizedPlan) → AllZip (IsPlanned nodes) (map (λ u. worth_plan u) (utility_list nodes)) plans → AllZip (IsPlanned others) (map (λ u. worth_plan u) (utility_list others)) plans
   worths_there plans h = all_planned nodes others k (map (λ u. worth_plan u) (utility_list others)) plans
-      (subst (λ asked. AllZip (IsPlanned nodes) asked plans) (λ i. map (λ u. worth_plan u) (filter (λ u. sym (k.utility u) i) (numbers_same nodes others k i))) h)
+      (subst (λ asked. AllZip (IsPlanned nodes) asked plans) (λ i. map (λ u. worth_plan u) (filter (λ u. sym (k.utility u) i) (numbers_kept nodes others k i))) h)
 
 pub run_there : (nodes others : List NodeView) (kept : KeptRun) → KeepsPlans nodes others → IsKeptRun nodes kept → IsKeptRun others kept
 run_there nodes others kept k h = record {

@@ -17,3 +17,4 @@ mod Dividing
 mod Above
 pub mod Joining
 pub mod Classing
+mod Near

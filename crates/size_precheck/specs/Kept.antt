@@ -1,13 +1,14 @@
 -- Plans that are kept for later runs, of other diagrams too.
-use Rattle.std.specs.Prelude.{◌≡◌, ℕ, List, All, Option, Some, length, map}
+use Rattle.std.specs.Prelude.{◌≡◌, ◌≢◌, ℕ, List, All, Option, Some, length, map}
 use Rattle.maid_model.specs.Nodes.{IsDecision, decisions_of, agent_of, node_at, states_of, parents_of, is_utility, is_utility_of}
 use Rattle.maid_model.specs.Views.{NodeView}
+use Rattle.plan_sums.specs.Plans.{worth_plan}
 use Rattle.size_precheck.specs.declared.decisions.DecisionPlans.{DecisionPlans}
 use Rattle.size_precheck.specs.declared.keeping.KeptPlans.{KeptPlans}
 use Rattle.size_precheck.specs.declared.keeping.KeptRun.{KeptRun}
 use Rattle.size_precheck.specs.Decisions.{AreDecisionPlans}
 use Rattle.size_precheck.specs.Families.{IsPlanner}
-use Rattle.size_precheck.specs.Sizes.{ArePlansOfWorths}
+use Rattle.size_precheck.specs.Sizes.{ArePlansOfWorths, IsPlanned, SizedPlan}
 
 -- what is kept is of a decision among these nodes, with its plans
 pub record IsKept (nodes : List NodeView) (kept : KeptPlans) : Type 0 where
@@ -51,3 +52,20 @@ KeptPlansStand = (nodes others : List NodeView) (kept : KeptPlans) → KeepsPlan
 abbrev pub KeptRunsStand : Type 0
 KeptRunsStand = (nodes others : List NodeView) (kept : KeptRun) → KeepsPlans nodes others
     → IsKeptRun nodes kept → IsKeptRun others kept
+
+-- the others have the nodes' kinds and states, and their parents but for those of one
+pub record DifferAt (nodes others : List NodeView) (changed : ℕ) : Type 0 where
+  pub count : length others ≡ length nodes
+  pub kind : (v : ℕ) → (node_at others v).kind ≡ (node_at nodes v).kind
+  pub states : (v : ℕ) → states_of others v ≡ states_of nodes v
+  pub parents : (v : ℕ) → v ≢ changed → parents_of others v ≡ parents_of nodes v
+
+-- these are the plans of all utilities' worths of nodes from which the others differ so
+abbrev pub AreWorthsBeside : List NodeView → ℕ → List SizedPlan → Type 0
+AreWorthsBeside others changed plans =
+    (nodes : List NodeView) × DifferAt nodes others changed × ArePlansOfWorths nodes plans
+
+-- the plan is that of a utility's worth, of nodes from which the others differ so
+abbrev pub IsWorthBeside : List NodeView → ℕ → SizedPlan → Type 0
+IsWorthBeside others changed plan =
+    (nodes : List NodeView) × (u : ℕ) × DifferAt nodes others changed × IsPlanned nodes (worth_plan u) plan

@@ -1,17 +1,20 @@
 //! Plans that are kept for later runs.
 
-ghost use Rattle.std.specs.Prelude.{All, IfOk};
+ghost use Rattle.std.specs.Prelude.{◌≡◌, ◌<◌, [], All, IfOk};
 ghost use Rattle.maid_model.specs.Nodes.{IsDecision};
 ghost use Rattle.size_precheck.specs.Decisions.{AreDecisionPlans, ArePlans};
 ghost use Rattle.size_precheck.specs.Families.{IsPlanner};
-ghost use Rattle.size_precheck.specs.Kept.{FollowDecisions, IsFoundInKept, IsKept, IsKeptRun};
-ghost use Rattle.size_precheck.specs.Sizes.{ListsDecisions};
+ghost use Rattle.node_sets.specs.declared.sets.TheConstants.{MOST_NODES};
+ghost use Rattle.size_precheck.specs.Kept.{AreWorthsBeside, FollowDecisions, IsFoundInKept, IsKept, IsKeptRun, IsWorthBeside};
+ghost use Rattle.size_precheck.specs.Sizes.{ArePlansOfWorths, IsPlanned, ListsDecisions};
 
 use crate::decisions::{DecisionPlans, decision_by};
+use crate::kinds::worth_by;
 use crate::planners::Planner;
 use crate::plans::Plan;
 use crate::worths::worths_by;
-use maid_model::Diagram;
+use maid_model::{Diagram, descent_is_tested};
+use node_sets::MOST_NODES;
 use std::alloc::{AllocError, Global};
 
 /// A decision with its plans. They are also those of a diagram in which other nodes have become decisions, as
@@ -123,4 +126,74 @@ pub(crate) fn plan_decisions(
         plans.push(decision_with(alloc, diagram, planner, kept, *decision)?)?;
     }
     Ok(plans)
+}
+
+/// The plan of a utility's worth in an edited diagram, by that before the edit. It stays where the node whose parents the
+/// edit changed does not lead to the utility, and is made anew where it does.
+fn worth_beside(
+    alloc: Global,
+    diagram: &Diagram,
+    planner: &Planner,
+    before: &Plan,
+    changed: usize,
+) -> Result<Plan, AllocError>
+    requires planner { IsPlanner diagram.now.nodes planner.now }
+    requires changed { changed < MOST_NODES }
+    requires before { IsWorthBeside diagram.now.nodes changed before.now }
+    ensures { IfOk result (IsPlanned diagram.now.nodes before.now.plan) }
+{
+    descent_is_tested();
+    match before.utility() {
+        Some(utility) => {
+            if planner.families[utility].above.holds(changed) {
+                worth_by(alloc, diagram, planner, utility)
+            } else {
+                before.copy(alloc)
+            }
+        }
+        None => unreachable!(),
+    }
+}
+
+/// The plans of all utilities' worths in an edited diagram, by those before the edit.
+fn worths_beside(
+    alloc: Global,
+    diagram: &Diagram,
+    planner: &Planner,
+    before: &[Plan],
+    changed: usize,
+) -> Result<Vec<Plan>, AllocError>
+    requires planner { IsPlanner diagram.now.nodes planner.now }
+    requires changed { changed < MOST_NODES }
+    requires before { AreWorthsBeside diagram.now.nodes changed before.now }
+    ensures { IfOk result (λ plans. ArePlansOfWorths diagram.now.nodes plans.items) }
+{
+    let mut plans = Vec::with_capacity(alloc, before.len())?;
+    for plan in before {
+        plans.push(worth_beside(alloc, diagram, planner, plan, changed)?)?;
+    }
+    Ok(plans)
+}
+
+/// What is kept of an edited diagram for one run: the plans of its utilities' worths, and none of its decisions'. The edit
+/// changes the parents of one node, and `before` has the plans of the worths before it (`plan_worths`). They are copied
+/// where that node does not lead to the utility, and the others are made anew; `make_plan` tells the cost of each.
+pub fn keep_edited(
+    alloc: Global,
+    diagram: &Diagram,
+    before: &[Plan],
+    changed: usize,
+) -> Result<KeptRun, AllocError>
+    requires changed { changed < MOST_NODES }
+    requires before { AreWorthsBeside diagram.now.nodes changed before.now }
+    ensures kept { IfOk result (IsKeptRun diagram.now.nodes) }
+    ensures worths_alone { IfOk result (λ run. run.decisions.items ≡ []) }
+{
+    let planner = Planner::new(alloc, diagram)?;
+    let worths = worths_beside(alloc, diagram, &planner, before, changed)?;
+    Ok(KeptRun {
+        planner,
+        decisions: Vec::new(alloc),
+        worths,
+    })
 }

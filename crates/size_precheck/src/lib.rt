@@ -18,7 +18,7 @@ mod starts;
 mod worths;
 
 pub use decisions::{DecisionPlans, plan_decision};
-pub use keeping::{KeptPlans, KeptRun, keep_plans};
+pub use keeping::{KeptPlans, KeptRun, keep_edited, keep_plans};
 pub use laws::{greedy_orders, kept_plans_stand, kept_runs_stand, sizes_of_plans};
 pub use plans::{Plan, make_plan};
 pub use runs::{RunPlans, measure, plan_run, plan_run_with};

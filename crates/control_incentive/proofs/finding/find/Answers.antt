@@ -27,16 +27,16 @@ decided d e agent x after same is = is ∙ ap (λ a. controlling a agent x) same
 no_error : {A E : Type 0} {x : A} {e : E} → Ok x ≡ Err e → ⊥
 no_error p = cc
 
-pub gain_with-found-requires-clause-near : goal.gain_with-found-requires-clause-near
-gain_with-found-requires-clause-near c =
+pub gain-found-requires-clause-near : goal.gain-found-requires-clause-near
+gain-found-requires-clause-near c =
     let d = c.args.baseline.now.diagram.now in
     let agent = c.args.baseline.now.agent in
     let is = c.count-count.ensures.diagram in
     subst (λ (e : DiagramView). HaveNearScopes d e agent) (sym (decided d c.args.copy.now c.args.baseline.now.agent c.args.node _ c.requires.copy c.in-Ok.ensures.made.0)) (inl (c.edits_keep_scopes.ensures.control d c.args.node agent is.graph is.tables c.requires.chance))
 
 -- what is kept stands where the node is a decision
-pub gain_with-found-requires-clause-kept : goal.gain_with-found-requires-clause-kept
-gain_with-found-requires-clause-kept c =
+pub gain-found-requires-clause-kept : goal.gain-found-requires-clause-kept
+gain-found-requires-clause-kept c =
     let d = c.args.baseline.now.diagram.now in
     let made = as_decision d.nodes c.args.baseline.now.agent c.args.node in
     let plans = plans_kept d.nodes c.args.baseline.now.agent c.args.node c.requires.chance in
@@ -54,18 +54,18 @@ returns-in-Ok-clause-found c =
     let holds : IsTrue c.args.matters = search rules in
     let large = MOST_RULE_CELLS < rule_cells (as_decision d.nodes agent x) in
     let room : MOST_RULE_CELLS < rule_cells (as_decision d.nodes agent x) → ⊥ = λ t. no_error (c.in-Ok.ensures.too_large.1 (subst (λ (e : DiagramView). MOST_RULE_CELLS < rule_cells (as_decision e.nodes agent x)) (sym c.requires.copy) t)) in
-    behind (unless (IsTrue c.args.matters) Worthless) (rule large TooLarge ▸ reason_pass made) (IsDifferenceOfOptima made.nodes d.nodes d.decimals agent) c.gain_with-found.result holds
-    (behind (rule large TooLarge) (reason_pass made) (IsDifferenceOfOptima made.nodes d.nodes d.decimals agent) c.gain_with-found.result room
-    (subst (λ e. IfOk c.gain_with-found.result (IsGain d e agent)) (decided d c.args.copy.now c.args.baseline.now.agent c.args.node _ c.requires.copy c.in-Ok.ensures.made.0) c.gain_with-found.ensures.gain))
+    behind (unless (IsTrue c.args.matters) Worthless) (rule large TooLarge ▸ reason_pass made) (IsDifferenceOfOptima made.nodes d.nodes d.decimals agent) c.gain-found.result holds
+    (behind (rule large TooLarge) (reason_pass made) (IsDifferenceOfOptima made.nodes d.nodes d.decimals agent) c.gain-found.result room
+    (subst (λ e. IfOk c.gain-found.result (IsGain d e agent)) (decided d c.args.copy.now c.args.baseline.now.agent c.args.node _ c.requires.copy c.in-Ok.ensures.made.0) c.gain-found.ensures.gain))
 
-pub gain_with-found-requires-clause-alone : goal.gain_with-found-requires-clause-alone
-gain_with-found-requires-clause-alone c =
+pub gain-found-requires-clause-alone : goal.gain-found-requires-clause-alone
+gain-found-requires-clause-alone c =
     let d = c.args.baseline.now.diagram.now in
     let agent = c.args.baseline.now.agent in
     subst (λ (e : DiagramView). OwnsAll e.nodes agent) (sym (decided d c.args.copy.now c.args.baseline.now.agent c.args.node _ c.requires.copy c.in-Ok.ensures.made.0)) (owns_made c.args.baseline.now.diagram.now.nodes agent c.args.node c.requires.chance c.requires.baseline.is_optimum.alone)
 
-pub gain_with-found-requires-clause-within : goal.gain_with-found-requires-clause-within
-gain_with-found-requires-clause-within c =
+pub gain-found-requires-clause-within : goal.gain-found-requires-clause-within
+gain-found-requires-clause-within c =
     let d = c.args.baseline.now.diagram.now in
     subst (λ (e : DiagramView). c.args.baseline.now.agent < e.agents) (sym (decided d c.args.copy.now c.args.baseline.now.agent c.args.node _ c.requires.copy c.in-Ok.ensures.made.0)) c.requires.baseline.within
 

@@ -1,4 +1,4 @@
-use Rattle.std.proofs.Common.{rules, ◌≡◌, true, inr, sym, subst}
+use Rattle.std.proofs.Common.{rules, ◌≡◌, true, inr, sym, subst, arith}
 use Rattle.std.specs.Prelude.{IfOk}
 use Rattle.diagram_graph.proofs.MoreArcs.{more_graph}
 use Rattle.diagram_graph.specs.Room.{IsArcTooLarge}
@@ -9,8 +9,9 @@ use Rattle.maid_model.specs.Subgames.{OwnsAll}
 use Rattle.maid_model.specs.Views.{DiagramView}
 use Rattle.optimum_gap.specs.Baselines.{HaveNearScopes}
 use Rattle.optimum_gap.specs.Found.{IsGain, TooLarge, Worthless, reason_pass, unless}
+use Rattle.size_precheck.specs.Kept.{DifferAt}
 use Rattle.info_value.specs.Finding.{diagram_with_arc}
-use Rattle.info_value.proofs.Added.{behind, owns_with, roomy}
+use Rattle.info_value.proofs.Added.{behind, differ_with, owns_with, roomy}
 use Rattle.info_value.proofs.finding.find_unseen.Goals as goal
 
 -- the diagram with the arc is one
@@ -58,4 +59,18 @@ returns-clause-found c =
     let holds : c.args.would_need ≡ true = search rules in
     behind (rule (IsArcTooLarge d.nodes x to) TooLarge) (unless (IsRequisite more.nodes to x) Worthless ▸ reason_pass more) (IsDifferenceOfOptima more.nodes d.nodes d.decimals agent) c.gain.result room
     (behind (unless (IsRequisite more.nodes to x) Worthless) (reason_pass more) (IsDifferenceOfOptima more.nodes d.nodes d.decimals agent) c.gain.result (c.requires.would_need.0 holds)
-    (subst (λ e. IfOk c.gain.result (IsGain d e agent)) c.in_ok-more.ensures c.gain.ensures))
+    (subst (λ e. IfOk c.gain.result (IsGain d e agent)) c.in_ok-more.ensures c.gain.ensures.gain))
+
+-- ---- what the lines share
+pub keep-requires-clause-changed : goal.keep-requires-clause-changed
+keep-requires-clause-changed c = let l = c.requires.asked.decision.within in let m = c.count-count.ensures.diagram.limits.nodes in omega (arith, l, m)
+
+pub keep-requires-clause-edited : goal.keep-requires-clause-edited
+keep-requires-clause-edited c =
+    let d = c.args.baseline.now.diagram.now in
+    let asked = c.requires.asked in
+    let graph = more_graph d.nodes c.args.from c.args.to asked.decision c.count-count.ensures.diagram.graph asked.within asked.no_utility c.requires.absent asked.above in
+    subst (λ (e : DiagramView). DifferAt d.nodes e.nodes c.args.to) (sym c.in_ok-more.ensures) (differ_with d.nodes c.args.from c.args.to asked.decision graph)
+
+pub keep-requires-clause-shared : goal.keep-requires-clause-shared
+keep-requires-clause-shared c = c.requires.shared

@@ -41,7 +41,7 @@ pub returns-in_ok-found-clause-line : goal.returns-in_ok-found-clause-line
 returns-in_ok-found-clause-line c =
     let arc : Arc c.args.baseline.now.diagram.now.nodes c.args.from c.args.to =
     subst (λ (us : List ℕ). Contains us c.args.from) c.parents-seen.ensures.parents (member c.parents-seen.result.now c.args.from c.if-contains.ensures.cases) in
-    record { decision = c.requires.asked.decision; has = ((λ t. arc), (λ a. refl)); found = c.in_ok-found.ensures; graph = λ e. let f = e in cc }
+    record { decision = c.requires.asked.decision; has = ((λ t. arc), (λ a. refl)); found = c.in_ok-found.ensures.found; graph = λ e. let f = e in cc }
 
 pub returns-in_err-found-clause-tail : goal.returns-in_err-found-clause-tail
 returns-in_err-found-clause-tail c = IfOk-from_err _ _ c.from_residual.ensures.0
@@ -103,3 +103,22 @@ returns-in_ok-found-2-clause-line c =
       found = told.found;
       graph = λ e. told.graph;
     }
+
+-- ---- what the lines share
+pub find_seen-requires-clause-shared : goal.find_seen-requires-clause-shared
+find_seen-requires-clause-shared c = c.requires.shared
+
+pub find_unseen-requires-clause-shared : goal.find_unseen-requires-clause-shared
+find_unseen-requires-clause-shared c = c.requires.shared
+
+pub returns-in_ok-found-clause-shared : goal.returns-in_ok-found-clause-shared
+returns-in_ok-found-clause-shared c = c.in_ok-found.ensures.shared
+
+pub returns-in_ok-found-2-clause-shared : goal.returns-in_ok-found-2-clause-shared
+returns-in_ok-found-2-clause-shared c = c.in_ok-found-2.ensures.shared
+
+pub returns-in_err-found-clause-shared : goal.returns-in_err-found-clause-shared
+returns-in_err-found-clause-shared c = IfOk-from_err _ _ c.from_residual.ensures.0
+
+pub returns-in_err-found-2-clause-shared : goal.returns-in_err-found-2-clause-shared
+returns-in_err-found-2-clause-shared c = IfOk-from_err _ _ c.from_residual-in_err-found-2.ensures.0

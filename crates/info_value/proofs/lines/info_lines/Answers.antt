@@ -5,6 +5,7 @@ use Rattle.std.specs.List.{range_with_len}
 use Rattle.info_value.specs.declared.lines.InfoLine.{InfoLine}
 use Rattle.info_value.specs.Alone.{IsInfoLineAlone}
 use Rattle.info_value.specs.Lines.{arc_of, arcs_into, decides}
+use Rattle.info_value.specs.Shared.{IsShared}
 use Rattle.info_value.proofs.Ranges.{lists_more}
 use borrow.Author.Count.{falls}
 use Rattle.info_value.proofs.lines.info_lines.Goals.{then-decides+in_ok-push_lines_into, else-decides}
@@ -24,12 +25,14 @@ loop-v-preserved c =
           record {
             arcs = ap (λ (l : Vec InfoLine Global). map arc_of l.items) w.lines-is ∙ pushed.arcs ∙ (λ i. c.loop-v.invariant.arcs i ++ cond (sym is i) (into v) []) ∙ sym more;
             lines = subst (λ (l : Vec InfoLine Global). All IsLine l.items) (sym w.lines-is) (pushed.lines c.loop-v.invariant.lines);
+            shared = subst (IsShared c.args.baseline.now.diagram.now.nodes) (sym w.shared-is) pushed.shared;
           }
       | else-decides w ↦
           let is = sym c.decides.ensures ∙ w.if-decides.false in
           record {
             arcs = ap (λ (l : Vec InfoLine Global). map arc_of l.items) w.lines-is ∙ sym (append-nil (map arc_of c.loop-v.lines.items)) ∙ (λ i. c.loop-v.invariant.arcs i ++ cond (sym is i) (into v) []) ∙ sym more;
             lines = subst (λ (l : Vec InfoLine Global). All IsLine l.items) (sym w.lines-is) c.loop-v.invariant.lines;
+            shared = subst (IsShared c.args.baseline.now.diagram.now.nodes) (sym w.shared-is) c.loop-v.invariant.shared;
           }
     ]
 
@@ -56,3 +59,6 @@ push_lines_into-requires-clause-asked c = c.requires.asked c.loop-v.v (subst (λ
 
 pub push_lines_into-requires-clause-within : goal.push_lines_into-requires-clause-within
 push_lines_into-requires-clause-within c = subst (λ n. c.loop-v.v < n) c.count-v-end.ensures.count c.loop-v-test.true
+
+pub push_lines_into-requires-clause-shared : goal.push_lines_into-requires-clause-shared
+push_lines_into-requires-clause-shared c = c.loop-v.invariant.shared

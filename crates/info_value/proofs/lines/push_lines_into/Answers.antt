@@ -6,6 +6,7 @@ use Rattle.std.proofs.lemmas.Result.{IfOk-from_err}
 use Rattle.info_value.specs.declared.lines.InfoLine.{InfoLine}
 use Rattle.info_value.specs.Alone.{IsInfoLineAlone}
 use Rattle.info_value.specs.Lines.{arc_of, may_see}
+use Rattle.info_value.specs.Shared.{IsShared}
 use Rattle.info_value.proofs.Ranges.{pairs_more}
 use borrow.Author.Count.{falls}
 use Rattle.info_value.proofs.lines.push_lines_into.Goals.{then-may_see+in_ok-info_line+in_ok-push, else-may_see}
@@ -35,6 +36,7 @@ loop-v-preserved c =
                 ∙ append_assoc front so_far (cond (test v) ((v, d) ∷ []) []) ∙ ap (λ ys. front ++ ys) (sym more);
             lines = λ all. subst (λ (l : Vec InfoLine Global). All IsLine l.items) (sym w.lines-is)
                 (subst (All IsLine) (sym {A = List InfoLine} pushed) (All-append IsLine lines (line ∷ []) (c.loop-v.invariant.lines all) (All-cons IsLine line [] w.in_ok-info_line.ensures.line (All-nil IsLine))));
+            shared = subst (IsShared c.args.baseline.now.diagram.now.nodes) (sym w.shared-is) w.in_ok-info_line.ensures.shared;
           }
       | else-may_see w ↦
           let is = sym c.may_see.ensures ∙ w.if-may_see.false in
@@ -42,6 +44,7 @@ loop-v-preserved c =
             arcs = ap (λ (l : Vec InfoLine Global). map arc_of l.items) w.lines-is ∙ sym (append-nil (map arc_of lines)) ∙ (λ i. c.loop-v.invariant.arcs i ++ cond (sym is i) ((v, d) ∷ []) [])
                 ∙ append_assoc front so_far (cond (test v) ((v, d) ∷ []) []) ∙ ap (λ ys. front ++ ys) (sym more);
             lines = λ all. subst (λ (l : Vec InfoLine Global). All IsLine l.items) (sym w.lines-is) (c.loop-v.invariant.lines all);
+            shared = subst (IsShared c.args.baseline.now.diagram.now.nodes) (sym w.shared-is) c.loop-v.invariant.shared;
           }
     ]
 
@@ -61,7 +64,7 @@ pub loop-v-smaller : goal.loop-v-smaller
 loop-v-smaller c = falls _ _ c.loop-v-test.true
 
 pub loop-v-init : goal.loop-v-init
-loop-v-init c = record { arcs = sym (append-nil (map arc_of c.args.lines.now.items)); lines = λ all. all }
+loop-v-init c = record { arcs = sym (append-nil (map arc_of c.args.lines.now.items)); lines = λ all. all; shared = c.requires.shared }
 
 pub returns-clause-arcs : goal.returns-clause-arcs
 returns-clause-arcs c =
@@ -77,3 +80,15 @@ info_line-requires-clause-asked c = c.requires.asked.arcs c.loop-v.v (subst (λ 
 
 pub may_see-requires-clause-within : goal.may_see-requires-clause-within
 may_see-requires-clause-within c = subst (λ n. c.loop-v.v < n) c.count-v-end.ensures.count c.loop-v-test.true
+
+pub returns-in_err-info_line-clause-shared : goal.returns-in_err-info_line-clause-shared
+returns-in_err-info_line-clause-shared c = IfOk-from_err _ _ c.from_residual.ensures.0
+
+pub returns-in_err-push-clause-shared : goal.returns-in_err-push-clause-shared
+returns-in_err-push-clause-shared c = IfOk-from_err _ _ c.from_residual-in_err-push.ensures.0
+
+pub returns-clause-shared : goal.returns-clause-shared
+returns-clause-shared c = c.loop-v.invariant.shared
+
+pub info_line-requires-clause-shared : goal.info_line-requires-clause-shared
+info_line-requires-clause-shared c = c.loop-v.invariant.shared

@@ -10,8 +10,8 @@ difference-requires c =
     shared_back c.in-Ok.less c.args.self.now.optimum
     (near_law d e c.args.self.now.agent c.args.self.now.optimum c.in-Ok.less c.count-before.ensures.diagram c.count-after.ensures.diagram c.requires.baseline c.requires.near c.requires.within c.in-Ok.ensures.rows.1.0 c.in-Ok.ensures.optimum)
 
-pub returns-in-Err : goal.returns-in-Err
-returns-in-Err c =
+pub returns-in-Err-clause-loss : goal.returns-in-Err-clause-loss
+returns-in-Err-clause-loss c =
     let d = c.args.self.now.diagram.now in
     let e = c.args.edited.now in
     told (reason_pass e) (IsDifferenceOfOptima d.nodes e.nodes d.decimals c.args.self.now.agent) c.refused.result (c.refused.ensures e c.in-Err.ensures.rows)

@@ -1,7 +1,7 @@
 use Rattle.maid_model.specs.Values.{IsDifferenceOfOptima}
 use Rattle.optimum_gap.proofs.Optima.{near_law, told}
 use Rattle.optimum_gap.specs.Found.{reason_pass}
-use Rattle.optimum_gap.proofs.baselines.Baseline.gain_with.Goals as goal
+use Rattle.optimum_gap.proofs.baselines.Baseline.gain.Goals as goal
 
 pub difference-requires : goal.difference-requires
 difference-requires c =
