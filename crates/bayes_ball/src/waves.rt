@@ -1,7 +1,7 @@
 //! The steps of a search: waves from all nodes that newly lead on, until none does.
 
-ghost use Rattle.std.specs.Prelude.{◌↔◌, ◌+◌, ◌<◌, ℕ, IsTrue, IsFalse};
-ghost use Rattle.node_sets.specs.Sets.{IsIn, room};
+ghost use Rattle.std.specs.Prelude.{◌↔◌, ℕ};
+ghost use Rattle.node_sets.specs.Sets.{IsIn};
 ghost use Rattle.bayes_ball.specs.Flow.{Way};
 ghost use Rattle.bayes_ball.specs.Spread.{AreClosed, AreFresh, AreLeadingUp, FlowAllFrom, GoesDown, GoesUp, IsMarked, LeadsDown};
 

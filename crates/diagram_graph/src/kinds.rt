@@ -1,6 +1,6 @@
 //! Nodes of another kind: a chance node under an agent's control, and decisions of other agents as chance nodes.
 
-ghost use Rattle.std.specs.Prelude.{◌≡◌, ℕ, ◌<◌, ◌≤◌, ◌*◌, ◌↔◌, ◌++◌, map, slice_set, length, pos, IsTrue, IfOk, OnOk, IsErrOf, OnErr};
+ghost use Rattle.std.specs.Prelude.{◌≡◌, ℕ, ◌<◌, ◌≤◌, ◌*◌, ◌↔◌, ◌++◌, map, length, pos, IsTrue, IfOk, OnOk, IsErrOf, OnErr};
 ghost use Rattle.maid_model.specs.declared.diagrams.Kind.TheVariants.{Chance};
 ghost use Rattle.maid_model.specs.declared.limits.TheConstants.{MOST_CELLS};
 ghost use Rattle.maid_model.specs.Answers.{FitsAnswers, rows_at};

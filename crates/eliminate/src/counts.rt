@@ -1,7 +1,6 @@
 //! Limits on cells and work, and what is left of them.
 
 ghost use Rattle.std.specs.Prelude.{◌≡◌, ◌*◌};
-ghost use Rattle.maid_model.specs.Nodes.{counts_of};
 ghost use Rattle.node_sets.specs.Sets.{holds};
 ghost use Rattle.size_precheck.specs.Counts.{counted_cells};
 ghost use Rattle.eliminate.specs.Limits.{Spends};

@@ -1,6 +1,6 @@
 //! The lists that runs write into, and the first ones of a list.
 
-ghost use Rattle.std.specs.Prelude.{◌≡◌, ◌≤◌, length, take, IfOk};
+ghost use Rattle.std.specs.Prelude.{◌≡◌, ◌≤◌, length, take};
 
 use factor_core::Slot;
 use node_sets::{MOST_NODES, NodeSet};
@@ -13,7 +13,9 @@ use std::marker::Model;
 pub struct RunLists {
     /// For each node the places of the slots that hold it.
     pub(crate) at: Vec<NodeSet>,
+    /// The slots, each at its place.
     pub(crate) slots: Vec<Slot>,
+    /// Those that a step joins, one behind the other.
     pub(crate) joined: Vec<Slot>,
 }
 

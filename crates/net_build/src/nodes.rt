@@ -1,7 +1,7 @@
 //! The node blocks of a text: names, labels, agents, kinds and counts of states.
 
 ghost use Rattle.std.specs.Prelude.{◌≡◌, ◌<◌, ◌++◌, [], ◌∷◌, All, Contains, length, IfOk, OnOk};
-ghost use Rattle.net_build.specs.Blocks.{is_node, kind_of, title_at, block_name, node_blocks, has_states, block_labels, block_states};
+ghost use Rattle.net_build.specs.Blocks.{is_node, kind_of, block_name, node_blocks, has_states, block_labels, block_states};
 ghost use Rattle.maid_model.specs.Names.{list_of};
 ghost use Rattle.first_fault.specs.Answers.{Passes};
 ghost use Rattle.net_build.specs.Passes.{build_fault};

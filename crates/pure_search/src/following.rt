@@ -1,7 +1,7 @@
 //! A sum that goes from one list of choices to the next.
 
-ghost use Rattle.std.specs.Prelude.{◌≡◌, ◌↔◌, ◌<◌, ◌++◌, All, Contains, IfOk, IsTrue, OnOk, length};
-ghost use Rattle.maid_model.specs.Nodes.{decisions_of, states_of};
+ghost use Rattle.std.specs.Prelude.{◌≡◌, ◌↔◌, ◌<◌, ◌++◌, Contains, IfOk, IsTrue, OnOk};
+ghost use Rattle.maid_model.specs.Nodes.{decisions_of};
 ghost use Rattle.maid_model.specs.Parts.{place_in};
 ghost use Rattle.maid_model.specs.Profiles.{pure_row};
 ghost use Rattle.maid_model.specs.Scopes.{scope_for};
