@@ -5,3 +5,4 @@ pub mod Words
 pub mod Turning
 pub mod Following
 pub mod Scanning
+pub mod Parting

@@ -48,6 +48,25 @@ impl ArcSets {
         }
     }
 
+    /// Takes away the arcs into the node. It goes through the node's parents once.
+    pub fn remove_arcs_into(&mut self, v: usize)
+        requires { v < MOST_NODES }
+        ensures parents { (u w : ℕ) → HasParent self.new u w
+            ↔ (HasParent self.old u w × (w ≡ v → ⊥)) }
+        ensures children { (u w : ℕ) → HasChild self.new u w
+            ↔ (HasChild self.old u w × (HasParent self.old u v × (w ≡ v) → ⊥)) }
+    {
+        let parents = self.parents[v];
+        self.parents[v] = NodeSet::empty();
+        let mut from = 0;
+        'parents: while let Some(u) = parents.first_from(from) {
+            let mut children = self.children[u];
+            children.remove(v);
+            self.children[u] = children;
+            from = u + 1;
+        }
+    }
+
     /// The node's parents.
     pub fn parents(&self, v: usize) -> NodeSet
         requires { v < MOST_NODES }

@@ -81,6 +81,30 @@ fn keeps_arcs(rt: HostRuntime) {
     assert!(rt; none.is_empty());
 }
 
+// an arc of the same tail into another node stays, and the node may gain arcs again
+#[test]
+fn takes_arcs_away(rt: HostRuntime) {
+    let mut arcs = ArcSets::none();
+    arcs.add_arcs_into(200, &[3, 70, 255]);
+    arcs.add_arcs_into(7, &[70, 200]);
+    arcs.remove_arcs_into(200);
+    let into = arcs.parents(200);
+    assert!(rt; into.is_empty());
+    let first = arcs.children(3);
+    let last = arcs.children(255);
+    assert!(rt; first.is_empty() && last.is_empty());
+    let out = arcs.children(70);
+    assert!(rt; out.holds(7) && !out.holds(200));
+    let others = arcs.parents(7);
+    assert!(rt; others.holds(70) && others.holds(200));
+    arcs.remove_arcs_into(70);
+    arcs.add_arcs_into(200, &[3]);
+    let again = arcs.parents(200);
+    assert!(rt; again.holds(3) && !again.holds(70));
+    let children = arcs.children(3);
+    assert!(rt; children.holds(200) && !children.holds(70));
+}
+
 #[test]
 fn steps_along_an_arc(rt: HostRuntime) {
     let children = children_of_any(&OneArc, &NodeSet::of(0));
