@@ -18,7 +18,7 @@ module _ (d : DiagramView) (agent x : ℕ) (chance : (node_at d.nodes x).kind �
   pub alike_back : AreAlike (node_at (controlling d agent x).nodes x) (node_at d.nodes x)
   alike_back =
       subst (λ n. AreAlike n (node_at d.nodes x)) (sym (get_or-set_same d.nodes x (made_decision d.nodes agent x) no_node there))
-      (record { states = refl; parents = refl; utilities = ap is_utility chance })
+      (record { states = refl; utilities = ap is_utility chance })
 
   pub restored : with_node (controlling d agent x) x (node_at d.nodes x) ≡ d
   restored = ap (λ nodes. diagram_of nodes d.agents d.decimals) (set-set d.nodes x (made_decision d.nodes agent x) (node_at d.nodes x) ∙ set-get_or d.nodes x no_node)

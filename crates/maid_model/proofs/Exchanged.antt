@@ -1,15 +1,18 @@
 -- What a diagram keeps of its nodes stays where a node gives way to one that is like it.
-use Rattle.std.proofs.Common.{◌≡◌, ◌∙◌, ℕ, ◌<◌, List, true, length, set, take, inl, inr, refl, sym, ap, subst}
+use Rattle.std.proofs.Common.{◌≡◌, ◌∙◌, ◌↔◌, ℕ, ◌<◌, List, true, length, set, take, inl, inr, refl, sym, ap, subst}
 use Rattle.std.specs.Prelude.{Contains}
 use Rattle.std.proofs.Math.Seq.{map-set_same}
 use Rattle.std.proofs.lemmas.Bool.{cases_eq}
 use Rattle.std.proofs.lemmas.List.{get_or-set_same, get_or-set_other, length-set}
+use Rattle.node_sets.specs.declared.arcs.ArcSets.{ArcSets}
+use Rattle.node_sets.specs.Arcs.{HasParent, HasChild}
 use Rattle.maid_model.specs.declared.diagrams.Kind.{Kind}
 use Rattle.maid_model.specs.declared.diagrams.Kind.TheVariants.{Chance, Decision, Utility}
 use Rattle.maid_model.specs.declared.indexing.NodeIndex.{NodeIndex}
 use Rattle.maid_model.specs.Edits.{AreAlike}
-use Rattle.maid_model.specs.Nodes.{IsUtility, is_utility, no_node, node_at}
-use Rattle.maid_model.specs.Private.{HasLiveStates, IsIndexOf}
+use Rattle.maid_model.specs.Graph.{Arc, IsGraph}
+use Rattle.maid_model.specs.Nodes.{IsUtility, is_utility, no_node, node_at, parents_of}
+use Rattle.maid_model.specs.Private.{HasLiveStates, HasRenewed, IsIndexOf}
 use Rattle.maid_model.specs.Relevance.{IsLive}
 use Rattle.maid_model.specs.Views.{NodeView}
 
@@ -30,8 +33,29 @@ module _ (nodes : List NodeView) (v : ℕ) (node : NodeView) (within : v < lengt
     | inr other ↦ ap f (get_or-set_other nodes v w node no_node other)
   ]
 
-  parents_same : (w : ℕ) → (node_at (set nodes v node) w).parents ≡ (node_at nodes w).parents
-  parents_same = same_at (λ n. n.parents) alike.parents
+  -- the arcs into other nodes are as before
+  arcs_renewed : (Before After : ℕ → ℕ → Type 0) → ((u w : ℕ) → Before u w ↔ Arc nodes u w) → ((u w : ℕ) → After u w ↔ HasRenewed Before v node.parents u w) →
+      (u w : ℕ) → After u w ↔ Arc (set nodes v node) u w
+  arcs_renewed Before After before after u w = elim (cases_eq w v) as (λ _. After u w ↔ Arc (set nodes v node) u w) [
+    | inl e ↦
+        let here : parents_of (set nodes v node) w ≡ node.parents = ap (parents_of (set nodes v node)) e ∙ ap (λ (n : NodeView). n.parents) (get_or-set_same nodes v node no_node within) in (
+          (λ h. elim ((after u w).0 h) as (λ _. Arc (set nodes v node) u w) [ inl k ↦ absurd (k.1 e) | inr k ↦ subst (λ ps. Contains ps u) (sym here) k.0 ]),
+          (λ a. (after u w).1 (inr (subst (λ ps. Contains ps u) here a, e))),
+        )
+    | inr n ↦
+        let same : parents_of (set nodes v node) w ≡ parents_of nodes w = ap (λ (m : NodeView). m.parents) (get_or-set_other nodes v w node no_node n) in (
+          (λ h. elim ((after u w).0 h) as (λ _. Arc (set nodes v node) u w) [ inl k ↦ subst (λ ps. Contains ps u) (sym same) ((before u w).0 k.0) | inr k ↦ absurd (n k.1) ]),
+          (λ a. (after u w).1 (inl ((before u w).1 (subst (λ ps. Contains ps u) same a), n))),
+        )
+  ]
+
+  -- where the parents are the same, all arcs are as before
+  arcs_stay : (Has : ℕ → ℕ → Type 0) → node.parents ≡ parents_of nodes v → ((u w : ℕ) → Has u w ↔ Arc nodes u w) → (u w : ℕ) → Has u w ↔ Arc (set nodes v node) u w
+  arcs_stay Has parents has u w =
+      let same = same_at (λ n. n.parents) parents w in (
+        (λ h. subst (λ ps. Contains ps u) (sym same) ((has u w).0 h)),
+        (λ a. (has u w).1 (subst (λ ps. Contains ps u) same a)),
+      )
 
   states_same : (w : ℕ) → (node_at (set nodes v node) w).states ≡ (node_at nodes w).states
   states_same = same_at (λ n. n.states) alike.states
@@ -66,11 +90,25 @@ module _ (nodes : List NodeView) (v : ℕ) (node : NodeView) (within : v < lengt
   utility_back : (w : ℕ) → IsUtility (set nodes v node) w → IsUtility nodes w
   utility_back w u = record { within = subst (λ n. w < n) long u.within; kind = same_kind _ _ (sym (utility_same w)) u.kind }
 
-  pub index_stays : (index : NodeIndex) → IsIndexOf nodes index → IsIndexOf (set nodes v node) index
-  index_stays index is = record {
-    parents = λ u w. ((λ h. subst (λ ps. Contains ps u) (sym (parents_same w)) ((is.parents u w).0 h)), (λ a. (is.parents u w).1 (subst (λ ps. Contains ps u) (parents_same w) a)));
-    children = λ u w. ((λ h. subst (λ ps. Contains ps u) (sym (parents_same w)) ((is.children u w).0 h)), (λ a. (is.children u w).1 (subst (λ ps. Contains ps u) (parents_same w) a)));
+  -- what is kept of the nodes besides arcs stays
+  index_with : (index : NodeIndex) (arcs : ArcSets) → IsIndexOf nodes index → ((u w : ℕ) → HasParent arcs u w ↔ Arc (set nodes v node) u w) → ((u w : ℕ) → HasChild arcs u w ↔ Arc (set nodes v node) u w) →
+      IsIndexOf (set nodes v node) (record { arcs = arcs; live = index.live; utilities = index.utilities; counts = index.counts })
+  index_with index arcs is parents children = record {
+    parents = parents;
+    children = children;
     live = λ w. ((λ m. live_on w ((is.live w).0 m)), (λ l. (is.live w).1 (live_back w l)));
     utilities = λ w. ((λ m. utility_on w ((is.utilities w).0 m)), (λ u. (is.utilities w).1 (utility_back w u)));
     counts = ap (λ n. take n index.counts) long ∙ is.counts ∙ sym (map-set_same (λ (n : NodeView). n.states) nodes v node no_node alike.states);
   }
+
+  pub index_stays : (index : NodeIndex) → node.parents ≡ parents_of nodes v → IsIndexOf nodes index → IsIndexOf (set nodes v node) index
+  index_stays index same is = index_with index index.arcs is (arcs_stay (HasParent index.arcs) same is.parents) (arcs_stay (HasChild index.arcs) same is.children)
+
+  pub index_renewed : (index : NodeIndex) (arcs : ArcSets) → ((u w : ℕ) → HasParent arcs u w ↔ HasRenewed (HasParent index.arcs) v node.parents u w) → ((u w : ℕ) → HasChild arcs u w ↔ HasRenewed (HasChild index.arcs) v node.parents u w) →
+      IsIndexOf nodes index → IsIndexOf (set nodes v node) (record { arcs = arcs; live = index.live; utilities = index.utilities; counts = index.counts })
+  index_renewed index arcs parents children is = index_with index arcs is (arcs_renewed (HasParent index.arcs) (HasParent arcs) is.parents parents) (arcs_renewed (HasChild index.arcs) (HasChild arcs) is.children children)
+
+-- the parents of a node that is put into a graph are nodes
+pub known_parents : (nodes : List NodeView) (v : ℕ) (node : NodeView) → v < length nodes → IsGraph (set nodes v node) → (u : ℕ) → Contains node.parents u → u < length nodes
+known_parents nodes v node within graph u there =
+    subst (λ n. u < n) (length-set nodes v node) (graph.parents_known u v (subst (λ (n : NodeView). Contains n.parents u) (sym (get_or-set_same nodes v node no_node within)) there))

@@ -33,10 +33,9 @@ with_arc nodes x d =
       cells = node.cells;
     })
 
--- the second node has the states and parents of the first, and is a utility just where that is one
+-- the second node has as many states as the first, and is a utility just where that is one
 pub record AreAlike (one two : NodeView) : Type 0 where
   pub states : two.states ≡ one.states
-  pub parents : two.parents ≡ one.parents
   pub utilities : is_utility two.kind ≡ is_utility one.kind
 
 -- the diagram with that node in the place of v

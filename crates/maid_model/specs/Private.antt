@@ -1,5 +1,5 @@
 -- Notions that only contracts of private functions cite.
-use Rattle.std.specs.Prelude.{◌≡◌, ◌≢◌, ℕ, ◌+◌, ◌<◌, ◌≤◌, ◌⊎◌, ◌↔◌, ◌==◌, List, length, take, slice_index, slice_index_or, slice_set, ℤ, pos, ◌*ℤ◌, if◌then◌else◌}
+use Rattle.std.specs.Prelude.{◌≡◌, ◌≢◌, ℕ, ◌+◌, ◌<◌, ◌≤◌, ◌⊎◌, ◌↔◌, ◌==◌, List, Contains, length, take, slice_index, slice_index_or, slice_set, ℤ, pos, ◌*ℤ◌, if◌then◌else◌}
 use Rattle.node_sets.specs.declared.sets.NodeSet.{NodeSet}
 use Rattle.node_sets.specs.Arcs.{HasParent, HasChild}
 use Rattle.node_sets.specs.Sets.{holds, IsIn}
@@ -27,6 +27,11 @@ pub record IsIndexOf (nodes : List NodeView) (index : NodeIndex) : Type 0 where
   pub live : (v : ℕ) → IsIn index.live v ↔ IsLive nodes v
   pub utilities : (v : ℕ) → IsIn index.utilities v ↔ IsUtility nodes v
   pub counts : take (length nodes) index.counts ≡ counts_of nodes
+
+-- the arcs into v lead from the nodes of the list, and those into other nodes are as before
+abbrev pub HasRenewed : (ℕ → ℕ → Type 0) → ℕ → List ℕ → ℕ → ℕ → Type 0
+HasRenewed Before v list u w =
+    (Before u w × (w ≡ v → ⊥)) ⊎ (Contains list u × (w ≡ v))
 
 -- an influence diagram, and what is kept of its nodes
 pub record IsIndexed (d : DiagramView) (index : NodeIndex) : Type 0 where

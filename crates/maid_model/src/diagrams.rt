@@ -112,8 +112,8 @@ impl Diagram {
         self.nodes
     }
 
-    /// Puts the node in the place of one that is like it, and gives that one back. It takes no memory, and looks at no other
-    /// node.
+    /// Puts the node in the place of one that is like it, and gives that one back. Their parents may differ. It takes no
+    /// memory, and looks at the parents of the two and at no other node.
     pub fn exchange(&mut self, v: usize, node: Node) -> Node
         requires within { v < length self.old.nodes }
         requires alike { AreAlike (node_at self.old.nodes v) node }
@@ -121,6 +121,7 @@ impl Diagram {
         ensures diagram { self.new ≡ with_node self.old v node }
         ensures node { result ≡ node_at self.old.nodes v }
     {
+        self.index.exchange(&self.nodes, v, &node);
         mem::replace(&mut self.nodes[v], node)
     }
 

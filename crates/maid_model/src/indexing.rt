@@ -1,14 +1,15 @@
 //! What a diagram keeps of its nodes: sets that searches along arcs ask again and again, and the counts of states that
 //! sums do.
 
-ghost use Rattle.std.specs.Prelude.{◌≡◌, ℕ, ◌<◌, ◌≤◌, ◌↔◌, length, take, IsTrue};
+ghost use Rattle.std.specs.Prelude.{◌≡◌, ℕ, ◌<◌, ◌≤◌, ◌↔◌, Contains, length, slice_set, take, IsTrue};
 ghost use Rattle.node_sets.specs.declared.sets.TheConstants.{MOST_NODES};
 ghost use Rattle.node_sets.specs.Arcs.{HasParent, HasChild};
 ghost use Rattle.node_sets.specs.Sets.{IsIn};
+ghost use Rattle.maid_model.specs.Edits.{AreAlike};
 ghost use Rattle.maid_model.specs.Graph.{Arc};
-ghost use Rattle.maid_model.specs.Nodes.{IsUtility, counts_of};
+ghost use Rattle.maid_model.specs.Nodes.{IsUtility, counts_of, node_at};
 ghost use Rattle.maid_model.specs.Relevance.{IsLive};
-ghost use Rattle.maid_model.specs.Private.{HasLiveStates, IsIndexOf};
+ghost use Rattle.maid_model.specs.Private.{HasLiveStates, HasRenewed, IsIndexOf};
 
 use crate::diagrams::{Kind, Node};
 use node_sets::{ArcSets, MOST_NODES, NodeSet};
@@ -38,6 +39,37 @@ impl NodeIndex {
             counts: state_counts_of(nodes),
         }
     }
+
+    /// Keeps what it does of these nodes with that one in the place of one that is like it. Where the parents differ, it goes
+    /// over those of both.
+    pub(crate) fn exchange(&mut self, nodes: &[Node], v: usize, node: &Node)
+        requires index { IsIndexOf nodes.now self.old }
+        requires few { length nodes.now ≤ MOST_NODES }
+        requires within { v < length nodes.now }
+        requires alike { AreAlike (node_at nodes.now v) node.now }
+        requires known { (u : ℕ) → Contains node.now.parents u → u < length nodes.now }
+        ensures { IsIndexOf (slice_set nodes.now v node.now) self.new }
+    {
+        let before = &nodes[v];
+        let parents = node.parents.as_slice();
+        if before.parents.as_slice() != parents {
+            renew_arcs_into(&mut self.arcs, v, parents);
+        }
+    }
+}
+
+/// Puts arcs into the node from those of the list in the place of the arcs into it.
+fn renew_arcs_into(arcs: &mut ArcSets, v: usize, list: &[usize])
+    requires node { v < MOST_NODES }
+    requires list { (u : ℕ) → Contains list.now u → u < MOST_NODES }
+    requires same { (u : ℕ) → HasChild arcs.old u v ↔ HasParent arcs.old u v }
+    ensures parents { (u w : ℕ) → HasParent arcs.new u w
+        ↔ HasRenewed (HasParent arcs.old) v list.now u w }
+    ensures children { (u w : ℕ) → HasChild arcs.new u w
+        ↔ HasRenewed (HasChild arcs.old) v list.now u w }
+{
+    arcs.remove_arcs_into(v);
+    arcs.add_arcs_into(v, list);
 }
 
 /// The arcs between the nodes.

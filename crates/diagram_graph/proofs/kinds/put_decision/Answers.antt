@@ -17,7 +17,7 @@ pub exchange-requires-clause-alike : goal.exchange-requires-clause-alike
 exchange-requires-clause-alike c =
     let nodes = c.args.diagram.now.nodes in
     subst (AreAlike (node_at nodes c.args.node)) (sym c.in_ok-made.ensures)
-    (record { states = refl; parents = refl; utilities = sym (ap is_utility c.requires.chance) })
+    (record { states = refl; utilities = sym (ap is_utility c.requires.chance) })
 
 pub exchange-requires-clause-diagram : goal.exchange-requires-clause-diagram
 exchange-requires-clause-diagram c =

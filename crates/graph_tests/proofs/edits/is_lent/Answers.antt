@@ -17,7 +17,7 @@ alike d e was is made =
     subst (λ (x : DiagramView). AreAlike (node_at x.nodes 1) was) (sym made.0)
     (subst (λ n. AreAlike n was) (sym (get_or-set_same d.nodes 1 (made_decision d.nodes 1 1) no_node (there d is)))
     (subst (AreAlike (made_decision d.nodes 1 1)) (sym made.1)
-    (record { states = refl; parents = refl; utilities = subst (λ (x : DiagramView). is_utility (node_at x.nodes 1).kind ≡ false) (sym is) refl })))
+    (record { states = refl; utilities = subst (λ (x : DiagramView). is_utility (node_at x.nodes 1).kind ≡ false) (sym is) refl })))
 
 -- the node is put back
 back : (d e : DiagramView) (was : NodeView) → IsDecidedAt d 1 1 e was → with_node e 1 was ≡ d
