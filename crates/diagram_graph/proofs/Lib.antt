@@ -12,4 +12,5 @@ pub mod MoreArcs
 pub mod Deciding
 pub mod Fixing
 pub mod Kept
+pub mod Undoing
 mod Members

@@ -3,6 +3,7 @@ use Rattle.std.proofs.Common.{◌≡◌, ◌≢◌, ◌⊎◌, ◌↔◌, ◌∙
 use Rattle.std.specs.List.{range_with_len}
 use Rattle.std.specs.Prelude.{Contains}
 use Rattle.std.proofs.Math.Decide.{ℕ_discrete}
+use Rattle.std.proofs.lemmas.Bool.{cases_lt}
 use Rattle.std.proofs.lemmas.List.Elements.{Contains-push_cases}
 use Rattle.finite_sums.specs.Members.{Among}
 use Rattle.maid_laws.proofs.Members.{apart_of, contains_of, different_of}
@@ -15,7 +16,7 @@ use Rattle.maid_model.specs.Edits.{with_arc}
 use Rattle.maid_model.specs.Graph.{Arc, AllDifferent, IsGraph, IsPath, Here, Along, IsAcyclic}
 use Rattle.maid_model.specs.Nodes.{IsDecision, is_decision, node_at, states_of, parents_of, rows_of, rows_under}
 use Rattle.maid_model.specs.Views.{NodeView}
-use Rattle.diagram_graph.specs.Room.{RulesFit, cells_at, rule_cells, rule_cells_at}
+use Rattle.diagram_graph.specs.Room.{IsArcTooLarge, RulesFit, cells_at, rule_cells, rule_cells_at}
 use Rattle.diagram_graph.proofs.Reparented.{else, len, kind_at, states_at, parents_at, rows_at, rows_else, diagram_kept}
 use Rattle.diagram_graph.proofs.RuleCells.{rules_changed}
 
@@ -136,3 +137,17 @@ module _ (nodes : List NodeView) (x d : ℕ) (k : IsDecision nodes d) where
 
   pub more_kept : (agents decimals : ℕ) → IsGraph more → RulesFit more d → IsDiagram (record { nodes = nodes; agents = agents; decimals = decimals }) → IsDiagram (record { nodes = more; agents = agents; decimals = decimals })
   more_kept agents decimals graph fit h = diagram_kept nodes d k seen agents decimals graph fit h
+
+-- an arc that is not there, closes no cycle and isn't too large leaves the rules few enough cells
+pub rules_fit : (nodes : List NodeView) (x d : ℕ) → (Arc nodes x d → ⊥) → (IsPath (Arc nodes) d x → ⊥) → (IsArcTooLarge nodes x d → ⊥) → RulesFit (with_arc nodes x d) d
+rules_fit nodes x d absent no_cycle room = record {
+  parents = stable _ _ (λ n. unfit (λ fit. n fit.parents));
+  cells = stable _ _ (λ n. unfit (λ fit. n fit.cells));
+  all = stable _ _ (λ n. unfit (λ fit. n fit.all));
+}
+  where
+    unfit : (RulesFit (with_arc nodes x d) d → ⊥) → ⊥
+    unfit n = room (record { absent = absent; no_cycle = no_cycle; too_much = n })
+
+    stable : (a b : ℕ) → ((a ≤ b → ⊥) → ⊥) → a ≤ b
+    stable a b h = elim (cases_lt b a) as (λ _. a ≤ b) [ inl l ↦ absurd (h (λ m. absurd (omega arith))) | inr m ↦ m ]

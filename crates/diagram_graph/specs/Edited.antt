@@ -1,9 +1,9 @@
 -- Diagrams with other nodes, and a node with other parents.
-use Rattle.std.specs.Prelude.{◌≡◌, ◌≢◌, ℕ, List, filter, map, not, pos, ℤ, ◌==◌}
+use Rattle.std.specs.Prelude.{◌≡◌, ◌≢◌, ℕ, ◌<◌, List, length, filter, map, not, pos, ℤ, ◌==◌}
 use Rattle.std.specs.List.{flat_map}
 use Rattle.maid_model.specs.declared.answers.Row.{Row}
 use Rattle.maid_model.specs.Answers.{choices_of}
-use Rattle.maid_model.specs.Edits.{as_decision, fixed_by, one_agent}
+use Rattle.maid_model.specs.Edits.{AreAlike, as_decision, fixed_by, one_agent, with_node}
 use Rattle.maid_model.specs.Graph.{Arc, IsPath}
 use Rattle.maid_model.specs.Nodes.{IsDecision, agent_of, node_at}
 use Rattle.maid_model.specs.Profiles.{pure_row}
@@ -28,6 +28,16 @@ IsDecidedAt d agent v e was = IsWithDecision d agent v e × (was ≡ node_at d.n
 -- e is the diagram d in which only the agent decides, and the others take the answered choices
 abbrev pub DecidesAlone : DiagramView → ℕ → List AnswerView → DiagramView → Type 0
 DecidesAlone d agent answers e = IsWithNodes d (one_agent d.nodes agent answers) e
+
+-- e is the diagram d with these nodes, and that is the node v as it was
+abbrev pub IsEditedAt : DiagramView → List NodeView → ℕ → DiagramView → NodeView → Type 0
+IsEditedAt d nodes v e was = IsWithNodes d nodes e × (was ≡ node_at d.nodes v)
+
+-- the node can be put in the place of v in e, which makes it d again
+pub record PutsBack (d : DiagramView) (v : ℕ) (e : DiagramView) (was : NodeView) : Type 0 where
+  pub within : v < length e.nodes
+  pub alike : AreAlike (node_at e.nodes v) was
+  pub again : with_node e v was ≡ d
 
 -- there is no arc from x to v
 abbrev pub LacksArc : DiagramView → ℕ → ℕ → Type 0

@@ -1,14 +1,14 @@
 //! Arcs into decisions: a diagram with one more.
 
-ghost use Rattle.std.specs.Prelude.{◌≡◌, ◌≢◌, ◌<◌, ◌↔◌, ◌++◌, [], ◌∷◌, length, IsTrue, IfOk, OnOk, IsErrOf};
+ghost use Rattle.std.specs.Prelude.{◌≡◌, ◌≢◌, ◌<◌, ◌↔◌, ◌++◌, [], ◌∷◌, length, IsTrue, IfOk, OnOk, OnErr, IsErrOf};
 ghost use Rattle.maid_model.specs.declared.diagrams.Kind.TheVariants.{Utility};
 ghost use Rattle.maid_model.specs.Edits.{with_arc};
 ghost use Rattle.maid_model.specs.Graph.{Arc, IsPath};
 ghost use Rattle.maid_model.specs.Nodes.{IsDecision, node_at};
-ghost use Rattle.diagram_graph.specs.Edited.{ClosesCycle, IsWithNodes, with_parents};
+ghost use Rattle.diagram_graph.specs.Edited.{ClosesCycle, IsEditedAt, IsWithNodes, PutsBack, with_parents};
 ghost use Rattle.diagram_graph.specs.Room.{IsArcTooLarge, RulesFit};
 
-use crate::copies::{copy_nodes, with_nodes};
+use crate::copies::{copy_node, copy_nodes, with_nodes};
 use crate::room::{cells_at, rule_cells};
 use maid_model::{Diagram, MOST_CELLS, MOST_PARENTS, MOST_RULE_CELLS, Node};
 use node_sets::{NodeSet, descendants};
@@ -137,4 +137,34 @@ pub fn add_arc(
     let mut nodes = copy_nodes(alloc, diagram)?;
     put_arc(&mut nodes, from, to)?;
     Ok(with_nodes(alloc, diagram, nodes)?)
+}
+
+/// Adds an arc that is not there to the diagram itself, as `add_arc` does to a copy, and gives the decision as it was:
+/// `Diagram::exchange` puts it back. It takes memory for the decision alone, and looks at no other node. Where there is
+/// room, `is_too_large` tells.
+///
+/// # Errors
+///
+/// Only where memory runs out. The diagram is as it was then.
+pub fn add_arc_in(
+    alloc: Global,
+    diagram: &mut Diagram,
+    from: usize,
+    to: usize,
+) -> Result<Node, AllocError>
+    requires decision { IsDecision diagram.old.nodes to }
+    requires from { from < length diagram.old.nodes }
+    requires no_utility { (node_at diagram.old.nodes from).kind ≢ Utility }
+    requires absent { Arc diagram.old.nodes from to → ⊥ }
+    requires no_cycle { IsPath (Arc diagram.old.nodes) to from → ⊥ }
+    requires room { IsArcTooLarge diagram.old.nodes from to → ⊥ }
+    ensures more { IfOk result
+        (IsEditedAt diagram.old (with_arc diagram.old.nodes from to) to diagram.new) }
+    ensures back { IfOk result (PutsBack diagram.old to diagram.new) }
+    ensures same { OnErr result (diagram.new ≡ diagram.old) }
+{
+    let _count = diagram.count();
+    let mut node = copy_node(alloc, diagram.node(to))?;
+    push_parent_of(&mut node, from)?;
+    Ok(diagram.exchange(to, node))
 }

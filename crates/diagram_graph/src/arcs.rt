@@ -1,12 +1,12 @@
 //! Arcs into decisions: a diagram with one less.
 
-ghost use Rattle.std.specs.Prelude.{◌≡◌, ◌<◌, ◌↔◌, ◌==◌, not, filter, length, IfOk, IsErrOf};
+ghost use Rattle.std.specs.Prelude.{◌≡◌, ◌<◌, ◌↔◌, ◌==◌, not, filter, length, IfOk, OnErr, IsErrOf};
 ghost use Rattle.maid_model.specs.Edits.{without_arc};
 ghost use Rattle.maid_model.specs.Graph.{Arc};
 ghost use Rattle.maid_model.specs.Nodes.{IsDecision};
-ghost use Rattle.diagram_graph.specs.Edited.{IsWithNodes, LacksArc, without_parent};
+ghost use Rattle.diagram_graph.specs.Edited.{IsEditedAt, IsWithNodes, LacksArc, PutsBack, without_parent};
 
-use crate::copies::{copy_nodes, with_nodes};
+use crate::copies::{copy_node, copy_nodes, with_nodes};
 use arc_laws::arc_removed;
 use maid_model::{Diagram, Node};
 use smallvec::SmallVec;
@@ -120,4 +120,29 @@ pub fn lose_arc(
     let mut nodes = diagram.into_nodes();
     drop_arc(&mut nodes, from, to);
     Diagram::from_nodes(alloc, nodes, agents, decimals)
+}
+
+/// Takes the arc into the decision out of the diagram itself, as `remove_arc` does out of a copy, and gives the decision
+/// as it was: `Diagram::exchange` puts it back. It takes memory for the decision alone, and looks at no other node.
+///
+/// # Errors
+///
+/// Only where memory runs out. The diagram is as it was then.
+pub fn remove_arc_in(
+    alloc: Global,
+    diagram: &mut Diagram,
+    from: usize,
+    to: usize,
+) -> Result<Node, AllocError>
+    requires { IsDecision diagram.old.nodes to }
+    ensures less { IfOk result
+        (IsEditedAt diagram.old (without_arc diagram.old.nodes from to) to diagram.new) }
+    ensures back { IfOk result (PutsBack diagram.old to diagram.new) }
+    ensures same { OnErr result (diagram.new ≡ diagram.old) }
+{
+    arc_removed();
+    let _count = diagram.count();
+    let mut node = copy_node(alloc, diagram.node(to))?;
+    drop_parent_of(&mut node, from);
+    Ok(diagram.exchange(to, node))
 }
