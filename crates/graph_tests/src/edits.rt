@@ -4,8 +4,8 @@ ghost use Rattle.std.specs.Prelude.{◌≡◌, IfOk};
 ghost use Rattle.graph_tests.specs.Edits.{example, answer_of, answers};
 
 use diagram_graph::{
-    AddFault, MakeFault, RemoveFault, add_arc, decide_at, fix_others, lose_arc, make_decision,
-    part, remove_arc,
+    AddFault, MakeFault, RemoveFault, add_arc, add_arc_in, decide_at, fix_others, lose_arc,
+    make_decision, part, remove_arc, remove_arc_in,
 };
 use maid_model::{Answer, Diagram, Kind, Row, Solved};
 use sample_diagrams::{chance, decision, sample_diagram, utility};
@@ -116,6 +116,60 @@ fn adds_an_arc_and_gives_control(rt: HostRuntime) -> Result<(), Fail> {
     assert!(rt; is_added(alloc)?);
     assert!(rt; is_given(alloc)?);
     assert!(rt; is_lent(alloc)?);
+    Ok(())
+}
+
+/// What the sets of arcs tell of the arcs from the chance nodes into the two decisions: each but the last as a parent and as
+/// a child.
+fn told_arcs(diagram: &Diagram) -> [bool; 7] {
+    let arcs = diagram.arcs();
+    [
+        arcs.parents(2).holds(0),
+        arcs.children(0).holds(2),
+        arcs.parents(3).holds(0),
+        arcs.children(0).holds(3),
+        arcs.parents(3).holds(1),
+        arcs.children(1).holds(3),
+        arcs.children(1).holds(2),
+    ]
+}
+
+/// What they tell of the diagram, of that in which the first decision doesn't see the first node, and of that in which the
+/// rival sees it.
+const WHOLE: [bool; 7] = [true, true, false, false, true, true, true];
+
+const HIDDEN: [bool; 7] = [false, false, false, false, true, true, true];
+
+const SHOWN: [bool; 7] = [true, true, true, true, true, true, true];
+
+/// Whether the first decision loses the first node in the diagram itself, and sees it again where it is put back.
+fn is_hidden(alloc: Global) -> Result<bool, AllocError> {
+    let mut whole = diagram(alloc)?;
+    let _count = whole.count();
+    let is_whole = told_arcs(&whole) == WHOLE;
+    let seeing = remove_arc_in(alloc, &mut whole, 0, 2)?;
+    let is_hidden = told_arcs(&whole) == HIDDEN && whole.parents(2) == [1].as_slice();
+    whole.exchange(2, seeing);
+    let is_back = told_arcs(&whole) == WHOLE && whole.parents(2) == [0, 1].as_slice();
+    Ok(is_whole && is_hidden && is_back)
+}
+
+/// Whether the rival's decision sees the first node too in the diagram itself, and no more where it is put back.
+fn is_shown(alloc: Global) -> Result<bool, AllocError> {
+    let mut whole = diagram(alloc)?;
+    let _count = whole.count();
+    let blind = add_arc_in(alloc, &mut whole, 0, 3)?;
+    let is_shown = told_arcs(&whole) == SHOWN && whole.parents(3) == [1, 0].as_slice();
+    whole.exchange(3, blind);
+    let is_back = told_arcs(&whole) == WHOLE && whole.parents(3) == [1].as_slice();
+    Ok(is_shown && is_back)
+}
+
+#[test]
+fn edits_arcs_and_puts_them_back(rt: HostRuntime) -> Result<(), Fail> {
+    let alloc = rt.alloc();
+    assert!(rt; is_hidden(alloc)?);
+    assert!(rt; is_shown(alloc)?);
     Ok(())
 }
 
