@@ -77,28 +77,6 @@ pub fn remove_arc(
     Ok(with_nodes(alloc, diagram, nodes)?)
 }
 
-/// The diagram without an arc that is there, as `remove_arc` gives it.
-///
-/// # Errors
-///
-/// Only where memory runs out.
-pub fn without_arc(
-    alloc: Global,
-    diagram: &Diagram,
-    from: usize,
-    to: usize,
-) -> Result<Diagram, AllocError>
-    requires decision { IsDecision diagram.now.nodes to }
-    requires arc { Arc diagram.now.nodes from to }
-    ensures { IfOk result (IsWithNodes diagram.now (without_arc diagram.now.nodes from to)) }
-{
-    match remove_arc(alloc, diagram, from, to) {
-        Ok(less) => Ok(less),
-        Err(RemoveFault::NotPresent) => unreachable!(),
-        Err(RemoveFault::NoMemory) => Err(AllocError),
-    }
-}
-
 /// The diagram without an arc that is there, out of the diagram itself: no node is copied.
 ///
 /// # Errors

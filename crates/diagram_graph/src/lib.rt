@@ -18,7 +18,7 @@ mod room;
 mod rounds;
 
 pub use adding::{AddFault, add_arc, add_arc_in, is_too_large};
-pub use arcs::{RemoveFault, lose_arc, remove_arc, remove_arc_in, without_arc};
+pub use arcs::{RemoveFault, lose_arc, remove_arc, remove_arc_in};
 pub use copies::{copy_diagram, copy_nodes};
 pub use cycles::{first_cycle, topological};
 pub use kinds::{MakeFault, decide_at, fix_others, make_decision};

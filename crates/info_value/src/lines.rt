@@ -40,11 +40,11 @@ fn info_line(
     requires baseline { HoldsBaseline baseline.now }
     requires asked { CanAsk baseline.now.diagram.now.nodes (from, to) }
     requires needs { TellsNeeds baseline.now.diagram.now.nodes to requisites.now }
-    requires shared { IsShared baseline.now.diagram.now.nodes shared.old }
+    requires shared { IsShared baseline.now.diagram.now shared.old }
     ensures tail { IfOk result (λ line. line.from ≡ from) }
     ensures head { IfOk result (λ line. line.to ≡ to) }
     ensures line { IfOk result (IsInfoLineAlone baseline.now.diagram.now baseline.now.agent) }
-    ensures shared { OnOk result (IsShared baseline.now.diagram.now.nodes shared.new) }
+    ensures shared { OnOk result (IsShared baseline.now.diagram.now shared.new) }
 {
     let seen = baseline.diagram.parents(to);
     let needed = requisites.has(from);
@@ -77,12 +77,12 @@ fn push_lines_into(
     decision: usize,
 ) -> Result<(), AllocError>
     requires baseline { HoldsBaseline baseline.now }
-    requires shared { IsShared baseline.now.diagram.now.nodes shared.old }
+    requires shared { IsShared baseline.now.diagram.now shared.old }
     requires within { decision < length diagram.now.nodes }
     requires asked { CanAskAll diagram.now.nodes baseline.now.diagram.now.nodes decision }
     ensures arcs { OnOk result (AppendsArcs diagram.now decision lines.old.items lines.new.items) }
     ensures lines { OnOk result (StayLinesOf baseline.now lines.old.items lines.new.items) }
-    ensures shared { OnOk result (IsShared baseline.now.diagram.now.nodes shared.new) }
+    ensures shared { OnOk result (IsShared baseline.now.diagram.now shared.new) }
 {
     let below = below(diagram, decision);
     let requisites = RequisiteNodes::of(baseline.diagram, decision);
@@ -107,6 +107,7 @@ fn info_lines(
 {
     let mut lines = Vec::new(alloc);
     let mut shared = Shared {
+        copy: None,
         worths: None,
         left: None,
     };
@@ -127,9 +128,10 @@ fn info_lines(
 /// refuses the diagram without the arc, or with it; and else `Value`, the optimum with the arc less that without it.
 ///
 /// The optimum of the diagram as it is is the answer's own gain, and one search of the graph tells of all arcs into a
-/// decision. So a line that says `Worthless`, or `TooLarge` for the limits on rules, costs neither a copy nor a search of
-/// its own. Each other line costs one copy of the diagram and one run of the solver. The plans of the utilities' worths are
-/// made once, and a run makes those anew to which the line's decision leads. The runs share their workspaces.
+/// decision. So a line that says `Worthless`, or `TooLarge` for the limits on rules, costs neither an edit nor a search of
+/// its own. Each other line costs one edit and one run of the solver. The lines share one copy of the diagram, in which
+/// one decision after another gains or loses an arc; the first line that edits it makes it. The plans of the utilities'
+/// worths are made once, and a run makes those anew to which the line's decision leads. The runs share their workspaces.
 ///
 /// # Errors
 ///

@@ -25,14 +25,14 @@ loop-v-preserved c =
           record {
             arcs = ap (λ (l : Vec InfoLine Global). map arc_of l.items) w.lines-is ∙ pushed.arcs ∙ (λ i. c.loop-v.invariant.arcs i ++ cond (sym is i) (into v) []) ∙ sym more;
             lines = subst (λ (l : Vec InfoLine Global). All IsLine l.items) (sym w.lines-is) (pushed.lines c.loop-v.invariant.lines);
-            shared = subst (IsShared c.args.baseline.now.diagram.now.nodes) (sym w.shared-is) pushed.shared;
+            shared = subst (IsShared c.args.baseline.now.diagram.now) (sym w.shared-is) pushed.shared;
           }
       | else-decides w ↦
           let is = sym c.decides.ensures ∙ w.if-decides.false in
           record {
             arcs = ap (λ (l : Vec InfoLine Global). map arc_of l.items) w.lines-is ∙ sym (append-nil (map arc_of c.loop-v.lines.items)) ∙ (λ i. c.loop-v.invariant.arcs i ++ cond (sym is i) (into v) []) ∙ sym more;
             lines = subst (λ (l : Vec InfoLine Global). All IsLine l.items) (sym w.lines-is) c.loop-v.invariant.lines;
-            shared = subst (IsShared c.args.baseline.now.diagram.now.nodes) (sym w.shared-is) c.loop-v.invariant.shared;
+            shared = subst (IsShared c.args.baseline.now.diagram.now) (sym w.shared-is) c.loop-v.invariant.shared;
           }
     ]
 

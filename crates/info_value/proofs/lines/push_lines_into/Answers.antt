@@ -36,7 +36,7 @@ loop-v-preserved c =
                 ∙ append_assoc front so_far (cond (test v) ((v, d) ∷ []) []) ∙ ap (λ ys. front ++ ys) (sym more);
             lines = λ all. subst (λ (l : Vec InfoLine Global). All IsLine l.items) (sym w.lines-is)
                 (subst (All IsLine) (sym {A = List InfoLine} pushed) (All-append IsLine lines (line ∷ []) (c.loop-v.invariant.lines all) (All-cons IsLine line [] w.in_ok-info_line.ensures.line (All-nil IsLine))));
-            shared = subst (IsShared c.args.baseline.now.diagram.now.nodes) (sym w.shared-is) w.in_ok-info_line.ensures.shared;
+            shared = subst (IsShared c.args.baseline.now.diagram.now) (sym w.shared-is) w.in_ok-info_line.ensures.shared;
           }
       | else-may_see w ↦
           let is = sym c.may_see.ensures ∙ w.if-may_see.false in
@@ -44,7 +44,7 @@ loop-v-preserved c =
             arcs = ap (λ (l : Vec InfoLine Global). map arc_of l.items) w.lines-is ∙ sym (append-nil (map arc_of lines)) ∙ (λ i. c.loop-v.invariant.arcs i ++ cond (sym is i) ((v, d) ∷ []) [])
                 ∙ append_assoc front so_far (cond (test v) ((v, d) ∷ []) []) ∙ ap (λ ys. front ++ ys) (sym more);
             lines = λ all. subst (λ (l : Vec InfoLine Global). All IsLine l.items) (sym w.lines-is) (c.loop-v.invariant.lines all);
-            shared = subst (IsShared c.args.baseline.now.diagram.now.nodes) (sym w.shared-is) c.loop-v.invariant.shared;
+            shared = subst (IsShared c.args.baseline.now.diagram.now) (sym w.shared-is) c.loop-v.invariant.shared;
           }
     ]
 

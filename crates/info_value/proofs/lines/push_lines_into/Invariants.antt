@@ -10,5 +10,5 @@ abbrev pub invariant-loop-v : goal.invariant-loop-v
 invariant-loop-v l = record {
   arcs : map arc_of l.lines.items ≡ map arc_of l.fn.lines.items ++ map (λ x. (x, l.decision)) (filter (may_see l.diagram.nodes l.decision) (range_with_len 0 l.v));
   lines : All (IsInfoLineAlone l.baseline.diagram.now l.baseline.agent) l.fn.lines.items → All (IsInfoLineAlone l.baseline.diagram.now l.baseline.agent) l.lines.items;
-  shared : IsShared l.baseline.diagram.now.nodes l.shared;
+  shared : IsShared l.baseline.diagram.now l.shared;
 }
