@@ -11,11 +11,11 @@ use Rattle.cell_rings.specs.Rings.{Ring, IsRing, IsSize}
 use Rattle.ring_sums.specs.Groups.{ProductsFit, JoinFits}
 use Rattle.ring_sums.proofs.Each.{Each, each_of, all_of, each_map, yes_or_no}
 use Rattle.factor_core.specs.declared.slots.Slot.{Slot}
-use Rattle.factor_core.specs.Scopes.{united}
-use Rattle.factor_core.specs.Slots.{space, cells_over, IsLiveSlot, tables_of}
+use Rattle.factor_core.specs.Scopes.{united, united_but}
+use Rattle.factor_core.specs.Slots.{space, cells_over, IsLiveSlot, tables_of, join_of, product_of_slots}
 use Rattle.factor_core.specs.Spaces.{CanJoinIn, CanMultiplyIn}
 use Rattle.factor_core.specs.Tables.{LiesIn, size_of}
-use Rattle.factor_core.proofs.Conditions.{room_to_join, room_to_multiply}
+use Rattle.factor_core.proofs.Conditions.{united_is, but_is, room_to_join, room_to_multiply}
 use Rattle.factor_core.proofs.Counts.{are_counts, cells_are, counts_length}
 use Rattle.factor_core.proofs.Standing.{lies_in}
 
@@ -33,16 +33,22 @@ module _ {C : Type 0} (nodes : List NodeView) (cells : List C) where
         | inr f ↦ united_known ss v live.1 (sym (ap (λ b. b || united ss v) f) ∙ t)
       ]
 
--- a table of a scope behind the first cells
-module _ {C : Type 0} (nodes : List NodeView) (counts : List ℕ) (is : counts ≡ counts_of nodes) (scope : NodeSet) (h : ℕ → Bool) (held : (v : ℕ) → holds scope v ≡ h v) (all : List C) (used : ℕ) (within : used ≤ length all) (room : cells_over nodes h ≤ (space all used).spare) where
-  pub size_is_cells : size_of counts scope ≡ cells_over nodes h
-  size_is_cells = ap (λ cs. size_of cs scope) is ∙ cells_are nodes (holds scope) ∙ ap (cells_over nodes) (fun_ext held)
+-- a table over the scope has a cell for each choice of its nodes' states
+pub size_is_cells : (nodes : List NodeView) (counts : List ℕ) (is : counts ≡ counts_of nodes) (scope : NodeSet) (h : ℕ → Bool) → ((v : ℕ) → holds scope v ≡ h v) → size_of counts scope ≡ cells_over nodes h
+size_is_cells nodes counts is scope h held = ap (λ cs. size_of cs scope) is ∙ cells_are nodes (holds scope) ∙ ap (cells_over nodes) (fun_ext held)
 
-  pub ends_within : used + size_of counts scope ≤ length all
-  ends_within = omega (arith, size_is_cells, room, within)
+module _ {C : Type 0} {r : Ring C} (laws : IsRing r) (sized : IsSize r r.size) (nodes : List NodeView) (counts : List ℕ) (is : counts ≡ counts_of nodes) (cells : List C) (slots : List Slot) (scope : NodeSet) where
+  -- so has the join of the slots
+  pub join_size : (x : ℕ) → ((v : ℕ) → holds scope v ≡ united_but slots x v) → size_of counts scope ≡ cells_over nodes (join_of r nodes x cells slots).holds
+  join_size x held = size_is_cells nodes counts is scope (join_of r nodes x cells slots).holds (λ v. held v ∙ but_is {r = r} laws sized nodes cells slots x v)
 
-  pub size_small : length all ≤ MOST_PLAN_CELLS → size_of counts scope ≤ 2 ^ 32
-  size_small short = omega (arith, ends_within, short)
+  -- and their product
+  pub product_size : ((v : ℕ) → holds scope v ≡ united slots v) → size_of counts scope ≡ cells_over nodes (product_of_slots r nodes cells slots).holds
+  product_size held = size_is_cells nodes counts is scope (product_of_slots r nodes cells slots).holds (λ v. held v ∙ united_is {r = r} laws sized nodes cells slots v)
+
+-- it ends within the cells where there is room for it
+pub ends_within : {C : Type 0} (nodes : List NodeView) (counts : List ℕ) (is : counts ≡ counts_of nodes) (scope : NodeSet) (h : ℕ → Bool) (held : (v : ℕ) → holds scope v ≡ h v) (all : List C) (used : ℕ) → used ≤ length all → cells_over nodes h ≤ (space all used).spare → used + size_of counts scope ≤ length all
+ends_within nodes counts is scope h held all used within room = omega (arith, size_is_cells nodes counts is scope h held, room, within)
 
 module _ {C : Type 0} {r : Ring C} (laws : IsRing r) (sized : IsSize r r.size) (d : DiagramView) (is : IsDiagram d) (counts : List ℕ) (e : counts ≡ counts_of d.nodes) (cells : List C) (short : length cells ≤ MOST_PLAN_CELLS) (slots : List Slot) (live : All (IsLiveSlot d.nodes cells) slots) where
   lying : All (LiesIn (counts_of d.nodes) (length cells)) slots

@@ -1,5 +1,5 @@
 -- The first tables of nodes are the tables whose cells stand in the order of the node's parents.
-use Rattle.std.proofs.Common.{◌≡◌, ◌⊎◌, ◌∙◌, ℕ, ◌*◌, ◌<◌, Bool, ◌||◌, ◌==◌, List, [], ◌∷◌, ◌++◌, map, length, get_or, refl, sym, ap, subst, arith, Contains, inl, inr, pos, nat_abs}
+use Rattle.std.proofs.Common.{◌≡◌, ◌⊎◌, ◌∙◌, ℕ, ◌*◌, ◌<◌, Bool, true, false, cond, ◌||◌, ◌==◌, List, [], ◌∷◌, ◌++◌, map, length, get_or, refl, sym, ap, subst, arith, Contains, inl, inr, pos, nat_abs}
 use Rattle.std.proofs.Math.Path.{fun_ext}
 use Rattle.std.proofs.lemmas.List.{length-map, get_or-map}
 use Rattle.finite_sums.specs.Sums.{World}
@@ -10,7 +10,7 @@ use Rattle.maid_laws.proofs.Rearranged.{number}
 use Rattle.maid_model.specs.declared.diagrams.Kind.TheVariants.{Chance, Decision, Utility}
 use Rattle.maid_model.specs.Diagrams.{IsDiagram}
 use Rattle.maid_model.specs.Graph.{AllDifferent, Here}
-use Rattle.maid_model.specs.Nodes.{node_at, states_of, parents_of, numbers_of, decisions_of, counts_of, rows_of, rows_under, is_decision, IsDecision}
+use Rattle.maid_model.specs.Nodes.{node_at, states_of, parents_of, numbers_of, decisions_of, counts_of, rows_of, rows_under, is_decision, is_utility, IsDecision}
 use Rattle.maid_model.specs.Profiles.{IsProfile, HasRule}
 use Rattle.maid_model.specs.Tables.{row_from, row_of, cell_of, table_by, weights_of}
 use Rattle.maid_model.specs.Views.{NodeView, DiagramView, RuleView}
@@ -19,6 +19,7 @@ use Rattle.node_sets.specs.Sets.{holds}
 use Rattle.ring_sums.specs.Tables.{IsSame}
 use Rattle.plan_sums.specs.Plans.{Cells, has, node_table, utility_table}
 use Rattle.factor_core.specs.Copies.{list_table}
+use Rattle.factor_core.specs.Operations.{first_count, first_table}
 use Rattle.factor_core.specs.Slots.{cells_over}
 use Rattle.factor_core.specs.Tables.{states_in, size_of}
 use Rattle.factor_core.proofs.Copying.{row_below}
@@ -80,6 +81,14 @@ module _ (d : DiagramView) (is : IsDiagram d) (v : ℕ) (inside : v < length d.n
   parents_room = list_room (parents_of d.nodes v) (has (parents_of d.nodes v)) (is.graph.parents_differ v) (λ u m. is.graph.parents_known u v m) (λ u. refl)
 
   module _ {C : Type 0} (c : Cells C) where
+    -- the room for the first table
+    pub first_room : (p : List RuleView) → first_count d.nodes v ≡ cells_over d.nodes (first_table c d.nodes p v).holds
+    first_room p = go (is_utility (node_at d.nodes v).kind)
+      where
+        go : (b : Bool) → cond b (rows_of d.nodes v) (rows_of d.nodes v * states_of d.nodes v) ≡ cells_over d.nodes (cond b (utility_table c d.nodes v) (node_table c d.nodes p v)).holds
+        go true = parents_room
+        go false = sym family_rows ∙ family_room
+
     -- the place over the family is that of the cell
     family_place : (w : World) → row_from (states_of d.nodes) w 0 family ≡ cell_of d.nodes v w
     family_place w = row_behind (states_of d.nodes) w 0 (parents_of d.nodes v) v

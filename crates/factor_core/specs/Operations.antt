@@ -4,7 +4,7 @@ use Rattle.finite_sums.specs.Sums.{World, InRange, with_state}
 use Rattle.maid_model.specs.declared.diagrams.Kind.{Kind}
 use Rattle.maid_model.specs.declared.diagrams.Kind.TheVariants.{Chance, Decision, Utility}
 use Rattle.maid_model.specs.Views.{NodeView, RuleView}
-use Rattle.maid_model.specs.Nodes.{node_at, is_utility}
+use Rattle.maid_model.specs.Nodes.{node_at, is_utility, rows_of, states_of}
 use Rattle.maid_model.specs.Tables.{weights_of}
 use Rattle.cell_rings.specs.declared.cells.Cell.{Ghosts}
 use Rattle.cell_rings.specs.Rings.{Ring, mass_ring}
@@ -30,6 +30,11 @@ pub record SumFits {C : Type 0} (r : Ring C) (count : ℕ → ℕ) (v : ℕ) (t 
 abbrev pub first_table : {C : Type 0} → Cells C → List NodeView → List RuleView → ℕ → Table C
 first_table c nodes p v =
     if is_utility (node_at nodes v).kind then utility_table c nodes v else node_table c nodes p v
+
+-- how many cells it has
+abbrev pub first_count : List NodeView → ℕ → ℕ
+first_count nodes v =
+    if is_utility (node_at nodes v).kind then rows_of nodes v else rows_of nodes v * states_of nodes v
 
 -- the numbers of a node's first table by its kind: a decision's are the weights of its rule
 abbrev pub numbers_by : Kind → List ℤ → List ℕ → List ℤ

@@ -222,17 +222,17 @@ HasCellsOf r d vs slot before after strip = HasCells r d.nodes vs
     (part after.cells strip.start strip.len) (table_of r d.nodes before.cells slot)
 
 -- ---- tables written behind the used cells of a list
--- the join of the slots with the node summed out
+-- the join of the slots with the node summed out, in its slot
 abbrev pub WritesJoin : {C : Type 0} → Ring C → List NodeView → ℕ → List Slot
-    → List C → List C → ℕ → Slot → Type 0
-WritesJoin r nodes v slots before after used slot =
-    Behind before after used slot (AppendsJoin r nodes v slots)
+    → List C → List C → Slot → Type 0
+WritesJoin r nodes v slots before after slot =
+    Behind before after slot.start slot (AppendsJoin r nodes v slots)
 
--- the product of the slots
+-- the product of the slots, in its slot
 abbrev pub WritesProduct : {C : Type 0} → Ring C → List NodeView → List Slot
-    → List C → List C → ℕ → Slot → Type 0
-WritesProduct r nodes slots before after used slot =
-    Behind before after used slot (AppendsProduct r nodes slots)
+    → List C → List C → Slot → Type 0
+WritesProduct r nodes slots before after slot =
+    Behind before after slot.start slot (AppendsProduct r nodes slots)
 
 -- the first table of a node
 abbrev pub WritesFirst : {C : Type 0} → Ghosts C → List NodeView → List RuleView → ℕ
@@ -252,11 +252,11 @@ abbrev pub WritesChance : {C : Type 0} → Ghosts C → List NodeView → ℕ
 WritesChance kind nodes v before after used slot =
     (p : List RuleView) → WritesNode kind nodes p v before after used slot
 
--- the slot's table at one state of a node
+-- the slot's table at one state of a node, in a slot of its own
 abbrev pub WritesState : {C : Type 0} → Ring C → DiagramView → ℕ → ℕ → Slot
-    → List C → List C → ℕ → Slot → Type 0
-WritesState r d v s of before after used slot =
-    Behind before after used slot (AppendsState r d v s of)
+    → List C → List C → Slot → Type 0
+WritesState r d v s of before after slot =
+    Behind before after slot.start slot (AppendsState r d v s of)
 
 -- the cells of the slot's table, the first of these nodes slowest
 abbrev pub WritesStrip : {C : Type 0} → Ring C → DiagramView → List ℕ → Slot

@@ -1,7 +1,8 @@
 -- What joins over the cells so far require. Only private contracts cite this file.
 use Rattle.std.specs.Global.{Vec}
-use Rattle.std.specs.Prelude.{◌≡◌, ℕ, take, vec_len, ◌^◌, ◌<◌, ◌≤◌, List, All, length}
+use Rattle.std.specs.Prelude.{◌≡◌, ℕ, take, vec_capacity, vec_len, ◌^◌, ◌<◌, ◌≤◌, List, All, length}
 use Rattle.cell_rings.specs.Rings.{Ring}
+use Rattle.node_sets.specs.declared.sets.NodeSet.{NodeSet}
 use Rattle.factor_core.specs.declared.slots.Slot.{Slot}
 use Rattle.factor_core.specs.Tables.{AreCounts, LiesIn, RoomToJoin, RoomToMultiply, size_of}
 
@@ -22,7 +23,15 @@ pub record CanMultiplyIn {C : Type 0}
   pub small : All (λ s. size_of counts s.scope ≤ 2 ^ 32) slots
   pub fits : RoomToMultiply r cells counts slots
 
--- the cells that stand stay at their places
-abbrev pub KeepsFirst : {C : Type 0} → Vec C → Vec C → Type 0
-KeepsFirst before after =
-    (n : ℕ) → n ≤ vec_len before → take n after.items ≡ take n before.items
+-- cells were written up to that place: those that stood there stay, and no more were written than asked for
+pub record IsBlankedTo {C : Type 0} (end : ℕ) (before after : Vec C) : Type 0 where
+  pub first : (n : ℕ) → n ≤ vec_len before → take n after.items ≡ take n before.items
+  pub far : end ≤ vec_len after
+  pub no_further : (room : ℕ) → vec_len before ≤ room → end ≤ room → vec_len after ≤ room
+  pub capacity : vec_capacity before ≤ vec_capacity after
+
+-- a slot over the nodes that starts there
+pub record IsSlotAt (counts : List ℕ) (nodes : NodeSet) (at : ℕ) (slot : Slot) : Type 0 where
+  pub start : slot.start ≡ at
+  pub scope : slot.scope ≡ nodes
+  pub size : slot.len ≡ size_of counts slot.scope

@@ -6,7 +6,7 @@ ghost use Rattle.maid_model.specs.declared.diagrams.Kind.{Kind};
 ghost use Rattle.maid_model.specs.Nodes.{counts_of, node_at, IsDecision};
 ghost use Rattle.maid_model.specs.Profiles.{IsProfile, HasRule};
 ghost use Rattle.maid_model.specs.Tables.{weights_of};
-ghost use Rattle.factor_core.specs.Operations.{NumbersFit};
+ghost use Rattle.factor_core.specs.Operations.{NumbersFit, first_count};
 ghost use Rattle.factor_core.specs.Slots.{AppendsUtility, Behind, HasSpareForFirst, HasSpareForNode, HasSpareForUtility, space, WritesChance, WritesFirst, WritesNode};
 
 use crate::orders::push_held;
@@ -36,6 +36,18 @@ fn rule_weights(profile: &Profile, decision: usize) -> &[u128]
 {
     let rule = profile.rule(decision);
     rule.weights.as_slice()
+}
+
+/// How many cells the first table of the node has.
+pub fn first_size(diagram: &Diagram, profile: &Profile, v: usize) -> usize
+    requires profile { IsProfile diagram.now.nodes profile.now }
+    requires node { v < length diagram.now.nodes }
+    ensures { result ≡ first_count diagram.now.nodes v }
+{
+    match diagram.kind(v) {
+        Kind::Decision => rule_weights(profile, v).len(),
+        Kind::Chance | Kind::Utility => diagram.cells(v).len(),
+    }
 }
 
 /// The table of a chance node, behind the first `used` cells.

@@ -1,6 +1,6 @@
 //! Workspaces: tables one behind another in one vector of cells.
 
-ghost use Rattle.std.specs.Prelude.{vec_capacity, vec_len, take, ◌⊎◌, ◌≡◌, ◌≤◌, ◌<◌, ◌+◌, ℕ, All, length, IfOk, [], ◌∷◌, ◌↔◌, Contains};
+ghost use Rattle.std.specs.Prelude.{vec_capacity, ◌≡◌, ◌≤◌, ◌<◌, ◌+◌, ◌^◌, ℕ, All, length, IfOk, [], ◌∷◌, ◌↔◌, Contains};
 ghost use Rattle.maid_model.specs.declared.limits.TheConstants.{MOST_PLAN_CELLS};
 ghost use Rattle.node_sets.specs.Sets.{IsIn};
 ghost use Rattle.maid_model.specs.Graph.{AllDifferent};
@@ -8,20 +8,23 @@ ghost use Rattle.maid_model.specs.Nodes.{states_of};
 ghost use Rattle.maid_model.specs.Profiles.{IsProfile};
 ghost use Rattle.factor_core.specs.Operations.{NumbersFit};
 ghost use Rattle.factor_core.specs.Slots.{part, IsLiveSlot, Appends, AreStatesOf, IsCellAt, AllStayLive, AppendsFirst, AppendsJoin, AppendsProduct, AppendsState, HasCellsOf, HasSpareForFirst, HasSpareForJoin, HasSpareForProduct, HasSpareForState, JoinOfFits, ProductOfFits, SumOfFits, WorkspaceView, AppendsSumOf};
-ghost use Rattle.factor_core.specs.Spaces.{KeepsFirst};
+ghost use Rattle.factor_core.specs.Spaces.{IsBlankedTo, IsSlotAt};
+ghost use Rattle.factor_core.specs.Tables.{AreCounts, size_of};
 
 use crate::appending::{join_behind, product_behind};
-use crate::firsts::table_behind;
+use crate::firsts::{first_size, table_behind};
 use crate::reading::read_cell;
-use crate::reorders::{reorder_behind, restrict_behind};
-use crate::slots::{Slot, Strip};
+use crate::reorders::{reorder_behind, restrict_behind, without};
+use crate::sizes::table_size;
+use crate::slots::{Slot, Strip, joined_scope, united_scope};
 use cell_rings::Cell;
 use maid_model::{Diagram, Profile};
+use node_sets::NodeSet;
 use std::alloc::{AllocError, Global};
 use std::marker::Model;
 
-/// Tables one behind another in one vector of cells, for which all memory is taken when it is made. The cells are written
-/// when the first table asks for some, so that a workspace without a table touches no memory.
+/// Tables one behind another in one vector of cells, for which all memory is taken when it is made. A cell is written
+/// once a table needs it, so that a workspace touches no more of its memory than its tables take.
 #[derive(Drop)]
 pub struct Workspace<C> {
     cells: Vec<C>,
@@ -30,7 +33,7 @@ pub struct Workspace<C> {
 }
 
 impl<C> Model for Workspace<C> {
-    ghost use Rattle.std.specs.Prelude.{◌≡◌, ◌≤◌, ◌⊎◌, ◌-◌, take, vec_capacity, vec_len};
+    ghost use Rattle.std.specs.Prelude.{◌≤◌, ◌-◌, take, vec_capacity, vec_len};
     ghost use Rattle.maid_model.specs.declared.limits.TheConstants.{MOST_PLAN_CELLS};
     ghost use Rattle.factor_core.specs.Slots.{WorkspaceView};
 
@@ -39,19 +42,33 @@ impl<C> Model for Workspace<C> {
     ghost view = { λ w. record { cells = take w.used w.cells.items; spare = w.room - w.used } };
 
     ghost invariant = { λ w. (w.used ≤ vec_len w.cells) × (vec_len w.cells ≤ w.room)
-        × (w.room ≤ MOST_PLAN_CELLS)
-        × ((vec_len w.cells ≡ w.room) ⊎ (w.room ≤ vec_capacity w.cells)) };
+        × (w.room ≤ MOST_PLAN_CELLS) × (w.room ≤ vec_capacity w.cells) };
 }
 
-/// Writes all cells, where that has not been done yet. The memory is there.
-fn blank<C: Cell>(cells: &mut Vec<C>, room: usize)
-    requires few { vec_len cells.old ≤ room }
-    requires held { (vec_len cells.old ≡ room) ⊎ (room ≤ vec_capacity cells.old) }
-    ensures len { vec_len cells.new ≡ room }
-    ensures first { KeepsFirst cells.old cells.new }
+/// Writes cells up to that place, where they have not been written yet. The memory is there.
+fn blank<C: Cell>(cells: &mut Vec<C>, end: usize)
+    requires { end ≤ vec_capacity cells.old }
+    ensures { IsBlankedTo end cells.old cells.new }
 {
-    if cells.len() < room {
-        cells.resize(room, C::zero()).unwrap();
+    if cells.len() < end {
+        cells.resize(end, C::zero()).unwrap();
+    }
+}
+
+/// A slot over the scope, behind the used cells. Cells are written to its end.
+fn lay_out<C: Cell>(cells: &mut Vec<C>, used: usize, counts: &[usize], scope: NodeSet) -> Slot
+    requires counts { AreCounts counts.now }
+    requires fits { size_of counts.now scope ≤ 2 ^ 32 }
+    requires room { used + size_of counts.now scope ≤ vec_capacity cells.old }
+    ensures slot { IsSlotAt counts.now scope used result }
+    ensures blank { IsBlankedTo (used + result.len) cells.old cells.new }
+{
+    let len = table_size(counts, &scope);
+    blank(cells, used + len);
+    Slot {
+        start: used,
+        len,
+        scope,
     }
 }
 
@@ -84,10 +101,14 @@ impl<C: Cell> Workspace<C> {
         requires room { HasSpareForFirst C.Cell diagram.now.nodes profile.now node self.old }
         ensures { AppendsFirst C.Cell diagram.now.nodes profile.now node self.old self.new result }
     {
-        blank(&mut self.cells, self.room);
+        let counts = diagram.state_counts();
+        blank(
+            &mut self.cells,
+            self.used + first_size(diagram, profile, node),
+        );
         let slot = table_behind(
             diagram,
-            diagram.state_counts(),
+            counts,
             profile,
             node,
             self.cells.as_mut_slice(),
@@ -109,14 +130,16 @@ impl<C: Cell> Workspace<C> {
         requires room { HasSpareForJoin C.ring diagram.now.nodes node slots.now self.old }
         ensures { AppendsJoin C.ring diagram.now.nodes node slots.now self.old self.new result }
     {
-        blank(&mut self.cells, self.room);
-        let slot = join_behind(
+        let counts = diagram.state_counts();
+        let scope = joined_scope(slots, node);
+        let slot = lay_out(&mut self.cells, self.used, counts, scope);
+        join_behind(
             diagram,
-            diagram.state_counts(),
+            counts,
             slots,
             node,
+            &slot,
             self.cells.as_mut_slice(),
-            self.used,
         );
         self.used += slot.len;
         slot
@@ -131,14 +154,9 @@ impl<C: Cell> Workspace<C> {
         requires room { HasSpareForProduct C.ring diagram.now.nodes slots.now self.old }
         ensures { AppendsProduct C.ring diagram.now.nodes slots.now self.old self.new result }
     {
-        blank(&mut self.cells, self.room);
-        let slot = product_behind(
-            diagram,
-            diagram.state_counts(),
-            slots,
-            self.cells.as_mut_slice(),
-            self.used,
-        );
+        let counts = diagram.state_counts();
+        let slot = lay_out(&mut self.cells, self.used, counts, united_scope(slots));
+        product_behind(diagram, counts, slots, &slot, self.cells.as_mut_slice());
         self.used += slot.len;
         slot
     }
@@ -163,17 +181,16 @@ impl<C: Cell> Workspace<C> {
         requires room { HasSpareForState C.ring diagram.now node state slot.now self.old }
         ensures { AppendsState C.ring diagram.now node state slot.now self.old self.new result }
     {
-        blank(&mut self.cells, self.room);
-        let slot = restrict_behind(
-            diagram,
-            slot,
-            node,
-            state,
-            self.cells.as_mut_slice(),
+        let counts = diagram.state_counts();
+        let rest = lay_out(
+            &mut self.cells,
             self.used,
+            counts,
+            without(&slot.scope, node),
         );
-        self.used += slot.len;
-        slot
+        restrict_behind(diagram, slot, node, state, &rest, self.cells.as_mut_slice());
+        self.used += rest.len;
+        rest
     }
 
     /// The slot's cells in another order: the first of these nodes, which are the slot's, slowest. It copies them.
@@ -187,7 +204,7 @@ impl<C: Cell> Workspace<C> {
         ensures cells { HasCellsOf C.ring diagram.now nodes.now slot.now self.old self.new result }
         ensures stays { AllStayLive C.ring diagram.now.nodes self.old.cells self.new.cells }
     {
-        blank(&mut self.cells, self.room);
+        blank(&mut self.cells, self.used + slot.len);
         let strip = reorder_behind(diagram, slot, nodes, self.cells.as_mut_slice(), self.used);
         self.used += strip.len;
         strip
