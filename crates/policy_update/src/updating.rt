@@ -1,12 +1,15 @@
 //! A whole diagram, updated round by round.
 
-ghost use Rattle.std.specs.Prelude.{◌≡◌, ◌<◌, ℕ, IfOk, length, slice_index};
+ghost use Rattle.std.specs.Prelude.{◌≡◌, ◌<◌, ℕ, IfOk, OnOk, length, slice_index};
 ghost use Rattle.first_fault.specs.Answers.{Passes};
 ghost use Rattle.maid_model.specs.Nodes.{agent_of, decisions_of};
 ghost use Rattle.maid_model.specs.Scopes.{KeepsScopedBounds};
 ghost use Rattle.maid_model.specs.Subgames.{OwnsAll};
 ghost use Rattle.policy_update.specs.Faults.{HasTwoOwners, rounds_pass, update_fault, update_pass};
-ghost use Rattle.policy_update.specs.Steps.{IsPlannedRun};
+ghost use Rattle.policy_update.specs.Steps.{EndsAt, IsPlannedRun, IsProfileOf};
+ghost use Rattle.reach_laws.specs.Updates.{start_profile};
+ghost use Rattle.rule_solver.specs.Masses.{HasGains};
+ghost use Rattle.rule_solver.specs.Rooms.{AreReady};
 ghost use Rattle.policy_update.specs.Updated.{IsLocallyOptimal, IsUpdateOf, RoundsRaise};
 
 use crate::UpdateFault;
@@ -18,7 +21,7 @@ use maid_model::{Answer, Diagram, Profile, Ratio};
 use reach_laws::{local_optimum, pure_profiles_listed, round_raises};
 use rule_solver::{Workspaces, expected_along};
 use size_precheck::RunPlans;
-use std::alloc::Global;
+use std::alloc::{AllocError, Global};
 use std::marker::Model;
 
 /// An updated diagram: how many rounds raised, an answer for each decision in text order, each row with its choice and
@@ -49,6 +52,80 @@ fn owner(diagram: &Diagram, decisions: &[usize]) -> usize
     diagram.agent_of(decisions[0])
 }
 
+/// What the rounds come to: how many raised before the first that did not, where one did not, and what the choices are
+/// worth to each agent.
+#[derive(Drop)]
+struct End {
+    raised: Option<u64>,
+    gains: Vec<Ratio>,
+}
+
+/// Goes through so many rounds by the plans of the run, or to the first that does not raise, and tells how many raised
+/// before that one.
+fn go_planned(
+    alloc: Global,
+    diagram: &Diagram,
+    decisions: &[usize],
+    run: &RunPlans,
+    profile: &mut Profile,
+    answers: &mut [Answer],
+    rounds: u64,
+    spaces: &mut Workspaces,
+) -> Result<Option<u64>, AllocError>
+    requires decisions { decisions.now ≡ decisions_of diagram.now.nodes }
+    requires owner { (agent : ℕ) × OwnsAll diagram.now.nodes agent }
+    requires bound { KeepsScopedBounds diagram.now }
+    requires run { IsPlannedRun diagram.now.nodes run.now }
+    requires ready { AreReady run.now.size.cells spaces.old }
+    requires plan { IsProfileOf diagram.now.nodes answers.old profile.old }
+    requires start { profile.old ≡ start_profile diagram.now.nodes }
+    ensures plan { OnOk result (IsProfileOf diagram.now.nodes answers.new profile.new) }
+    ensures again { OnOk result (spaces.new ≡ spaces.old) }
+    ensures settled { IfOk result (EndsAt diagram.now.nodes rounds profile.new) }
+{
+    pure_profiles_listed();
+    let kept = Kept::new(alloc, diagram, decisions, profile, &run.decisions)?;
+    go_rounds(alloc, diagram, profile, answers, rounds, &kept, spaces)
+}
+
+/// Goes through so many rounds, or to the first that does not raise, and tells what they come to. The workspaces are
+/// reserved once.
+fn go_to_end(
+    alloc: Global,
+    diagram: &Diagram,
+    decisions: &[usize],
+    run: &RunPlans,
+    profile: &mut Profile,
+    answers: &mut [Answer],
+    rounds: u64,
+) -> Result<End, AllocError>
+    requires decisions { decisions.now ≡ decisions_of diagram.now.nodes }
+    requires owner { (agent : ℕ) × OwnsAll diagram.now.nodes agent }
+    requires bound { KeepsScopedBounds diagram.now }
+    requires run { IsPlannedRun diagram.now.nodes run.now }
+    requires plan { IsProfileOf diagram.now.nodes answers.old profile.old }
+    requires start { profile.old ≡ start_profile diagram.now.nodes }
+    ensures plan { OnOk result (IsProfileOf diagram.now.nodes answers.new profile.new) }
+    ensures settled { IfOk result (λ end. EndsAt diagram.now.nodes rounds profile.new end.raised) }
+    ensures gains { IfOk result (λ end.
+        HasGains diagram.now profile.new diagram.now.agents end.gains.items) }
+{
+    pure_profiles_listed();
+    let mut spaces = Workspaces::reserve(alloc, run.size.cells as usize)?;
+    let raised = go_planned(
+        alloc,
+        diagram,
+        decisions,
+        run,
+        profile,
+        answers,
+        rounds,
+        &mut spaces,
+    )?;
+    let gains = expected_along(alloc, diagram, profile, &run.worths, &mut spaces)?;
+    Ok(End { raised, gains })
+}
+
 /// The result of updating from the first states of all by the plans of the run, or the expected utility after so many
 /// rounds, each of which raised.
 fn update_within(
@@ -66,24 +143,20 @@ fn update_within(
     ensures rows { Passes update_fault (rounds_pass diagram.now rounds) result }
     ensures ok { IfOk result (IsUpdateOf diagram.now) }
 {
-    pure_profiles_listed();
     round_raises();
     let _count = diagram.count();
     let mut answers = first_choices(alloc, diagram, decisions)?;
     let mut profile = Profile::pure(alloc, diagram, &answers)?;
-    let kept = Kept::new(alloc, diagram, decisions, &profile, &run.decisions)?;
-    let mut spaces = Workspaces::reserve(alloc, run.size.cells as usize)?;
-    let settled = go_rounds(
+    let End { raised, gains } = go_to_end(
         alloc,
         diagram,
+        decisions,
+        run,
         &mut profile,
         &mut answers,
         rounds,
-        &kept,
-        &mut spaces,
     )?;
-    let gains = expected_along(alloc, diagram, &profile, &run.worths, &mut spaces)?;
-    match settled {
+    match raised {
         Some(raised) => Ok(Updated {
             rounds: raised,
             answers,
