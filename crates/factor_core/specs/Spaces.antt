@@ -1,4 +1,5 @@
--- What joins over the cells so far require. Only private contracts cite this file.
+-- What joins over the cells so far require, and how cells and a slot are laid out behind them. Only private contracts cite
+-- this file.
 use Rattle.std.specs.Global.{Vec}
 use Rattle.std.specs.Prelude.{◌≡◌, ℕ, take, vec_capacity, vec_len, ◌^◌, ◌<◌, ◌≤◌, List, All, length}
 use Rattle.cell_rings.specs.Rings.{Ring}
