@@ -7,7 +7,6 @@ mod Measured
 mod PlanCells
 mod Planned
 mod Products
-mod Promises
 mod Seen
 mod StakeLemmas
 mod Summed

@@ -5,6 +5,7 @@ ghost use Rattle.maid_model.specs.declared.diagrams.Kind.TheVariants.{Utility};
 ghost use Rattle.maid_model.specs.declared.limits.TheConstants.{COUNT_END};
 ghost use Rattle.maid_model.specs.Nodes.{node_at};
 ghost use Rattle.maid_model.specs.Placing.{IsRelianceOrder};
+ghost use Rattle.size_precheck.specs.Families.{IsPlanner};
 ghost use Rattle.size_precheck.specs.Runs.{joined_size};
 ghost use Rattle.size_precheck.specs.Sizes.{CanBePlanned};
 ghost use Rattle.evidence.specs.Measures.{AddsPlanGiven, AddsUtilities, AddsUtility};
@@ -13,7 +14,7 @@ ghost use Rattle.evidence.specs.Sizes.{IsSizeOfPlans, plan_given};
 
 use maid_model::{COUNT_END, Diagram, Kind};
 use rule_solver::orders_list_decisions;
-use size_precheck::{Plan, RunPlans, Size, make_plan, plan_run};
+use size_precheck::{Plan, Planner, RunPlans, Size, plan_by, plan_run_by};
 use std::alloc::{AllocError, Global};
 
 /// The plans of a diagram in which a node is given, made once and kept, and their size.
@@ -45,16 +46,18 @@ fn join_sizes(size: Size, other: Size) -> Size
 fn add_plan(
     alloc: Global,
     diagram: &Diagram,
+    planner: &Planner,
     node: usize,
     utility: Option<usize>,
     size: Size,
 ) -> Result<(Plan, Size), AllocError>
+    requires planner { IsPlanner diagram.now.nodes planner.now }
     requires asked { CanBePlanned diagram.now.nodes (plan_given node utility) }
     requires few { size.work ≤ COUNT_END }
     ensures plan { IfOk result (λ made. IsPlanGiven diagram.now.nodes node utility made.0) }
     ensures size { IfOk result (λ made. AddsPlanGiven diagram.now.nodes node utility size made.1) }
 {
-    let plan = make_plan(alloc, diagram, &[node], None, utility)?;
+    let plan = plan_by(alloc, diagram, planner, &[node], None, utility)?;
     let size = join_sizes(size, plan.size());
     Ok((plan, size))
 }
@@ -63,10 +66,12 @@ fn add_plan(
 fn add_utility(
     alloc: Global,
     diagram: &Diagram,
+    planner: &Planner,
     node: usize,
     v: usize,
     size: Size,
 ) -> Result<(Option<Plan>, Size), AllocError>
+    requires planner { IsPlanner diagram.now.nodes planner.now }
     requires node { node < length diagram.now.nodes }
     requires kind { (node_at diagram.now.nodes node).kind ≢ Utility }
     requires within { v < length diagram.now.nodes }
@@ -76,7 +81,7 @@ fn add_utility(
 {
     match diagram.kind(v) {
         Kind::Utility => {
-            let (plan, size) = add_plan(alloc, diagram, node, Some(v), size)?;
+            let (plan, size) = add_plan(alloc, diagram, planner, node, Some(v), size)?;
             Ok((Some(plan), size))
         }
         Kind::Chance | Kind::Decision => Ok((None, size)),
@@ -88,9 +93,11 @@ fn add_utility(
 fn add_utilities(
     alloc: Global,
     diagram: &Diagram,
+    planner: &Planner,
     node: usize,
     size: Size,
 ) -> Result<(Vec<Option<Plan>>, Size), AllocError>
+    requires planner { IsPlanner diagram.now.nodes planner.now }
     requires within { node < length diagram.now.nodes }
     requires kind { (node_at diagram.now.nodes node).kind ≢ Utility }
     requires few { size.work ≤ COUNT_END }
@@ -100,7 +107,7 @@ fn add_utilities(
     let mut plans = Vec::with_capacity(alloc, diagram.count())?;
     let mut all = size;
     for v in 0..diagram.count() {
-        let (plan, more) = add_utility(alloc, diagram, node, v, all)?;
+        let (plan, more) = add_utility(alloc, diagram, planner, node, v, all)?;
         plans.push(plan)?;
         all = more;
     }
@@ -108,7 +115,7 @@ fn add_utilities(
 }
 
 /// All plans of a diagram in which the node is given: those of the run in this order, the plan that
-/// keeps the node, and that plan with each utility.
+/// keeps the node, and that plan with each utility. What they share is found once.
 pub(crate) fn plan_all(
     alloc: Global,
     diagram: &Diagram,
@@ -123,9 +130,10 @@ pub(crate) fn plan_all(
     ensures size { IfOk result (λ p. IsSizeOfPlans diagram.now.nodes order.now node p.size) }
 {
     orders_list_decisions();
-    let run = plan_run(alloc, diagram, order)?;
-    let (alone, size) = add_plan(alloc, diagram, node, None, run.size)?;
-    let (utilities, size) = add_utilities(alloc, diagram, node, size)?;
+    let planner = Planner::new(alloc, diagram)?;
+    let run = plan_run_by(alloc, diagram, &planner, order)?;
+    let (alone, size) = add_plan(alloc, diagram, &planner, node, None, run.size)?;
+    let (utilities, size) = add_utilities(alloc, diagram, &planner, node, size)?;
     Ok(GivenPlans {
         run,
         alone,

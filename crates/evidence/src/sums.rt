@@ -1,12 +1,13 @@
 //! Conditional expected utilities by plans of elimination.
 
-ghost use Rattle.std.specs.Prelude.{◌≡◌, ◌<◌, IfOk, OnOk, None, Option, Some, length};
+ghost use Rattle.std.specs.Prelude.{◌≡◌, ◌<◌, IfOk, None, Option, Some, length};
 ghost use Rattle.first_fault.specs.Answers.{Passes};
 ghost use Rattle.maid_model.specs.Diagrams.{IsDiagram};
 ghost use Rattle.maid_model.specs.declared.diagrams.Kind.TheVariants.{Utility};
 ghost use Rattle.maid_model.specs.Nodes.{node_at};
 ghost use Rattle.reach_laws.specs.Evidence.{IsEvidence};
 ghost use Rattle.size_precheck.specs.Sizes.{IsPlanned};
+ghost use Rattle.rule_solver.specs.Totals.{HasTotals};
 ghost use Rattle.evidence.specs.Conditional.{HasAllGains};
 ghost use Rattle.evidence.specs.Faults.{given_fault, impossible_pass};
 ghost use Rattle.evidence.specs.Plans.{HasFurtherPlans, HasUtilityPlans, IsPlanIf};
@@ -18,77 +19,80 @@ use crate::measures::GivenPlans;
 use crate::stakes::Stake;
 use maid_model::{Diagram, Profile, Ratio};
 use reach_laws::{best_given, scopes_of_evidence};
-use rule_solver::{Workspaces, sum_at};
+use rule_solver::{Workspaces, list_totals, sum_at};
 use size_precheck::Plan;
 use std::alloc::{AllocError, Global};
 use weight_scale::scope_given;
 
 /// What the plan that keeps the node sums to at the state.
 fn mass_at(
-    alloc: Global,
     diagram: &Diagram,
     profile: &Profile,
+    totals: &[u128],
     node: usize,
     state: usize,
     plan: &Plan,
     spaces: &mut Workspaces,
-) -> Result<u128, AllocError>
+) -> u128
     requires setting { IsGivenSetting diagram.now profile.now node state }
+    requires totals { HasTotals diagram.now.nodes profile.now totals.now }
     requires planned { IsPlanned diagram.now.nodes (plan_given node None) plan.now }
     requires ready { HasSpaceFor diagram.now.nodes (plan_given node None) spaces.old }
-    ensures mass { IfOk result (IsMassAt diagram.now.nodes profile.now node state) }
+    ensures mass { IsMassAt diagram.now.nodes profile.now node state result }
     ensures diagram { IsDiagram diagram.now }
-    ensures again { OnOk result (spaces.new ≡ spaces.old) }
+    ensures again { spaces.new ≡ spaces.old }
 {
     let _count = diagram.count();
-    let sum = sum_at(alloc, diagram, profile, node, state, plan, spaces)?;
-    Ok(sum.unsigned_abs())
+    let sum = sum_at(diagram, profile, totals, node, state, plan, spaces);
+    sum.unsigned_abs()
 }
 
 /// What the plan that keeps the node sums to at the state with the utility.
 fn worth_at(
-    alloc: Global,
     diagram: &Diagram,
     profile: &Profile,
+    totals: &[u128],
     node: usize,
     state: usize,
     utility: usize,
     plan: &Plan,
     spaces: &mut Workspaces,
-) -> Result<i128, AllocError>
+) -> i128
     requires setting { IsGivenSetting diagram.now profile.now node state }
+    requires totals { HasTotals diagram.now.nodes profile.now totals.now }
     requires within { utility < length diagram.now.nodes }
     requires kind { (node_at diagram.now.nodes utility).kind ≡ Utility }
     requires planned { IsPlanned diagram.now.nodes (plan_given node (Some utility)) plan.now }
     requires ready { HasSpaceFor diagram.now.nodes (plan_given node (Some utility)) spaces.old }
-    ensures worth { IfOk result (IsWorthGivenAt diagram.now.nodes profile.now node state utility) }
-    ensures again { OnOk result (spaces.new ≡ spaces.old) }
+    ensures worth { IsWorthGivenAt diagram.now.nodes profile.now node state utility result }
+    ensures again { spaces.new ≡ spaces.old }
 {
     let _count = diagram.count();
-    sum_at(alloc, diagram, profile, node, state, plan, spaces)
+    sum_at(diagram, profile, totals, node, state, plan, spaces)
 }
 
 /// The same of any node: 0 where it is no utility, and has no plan.
 fn worth_or_none(
-    alloc: Global,
     diagram: &Diagram,
     profile: &Profile,
+    totals: &[u128],
     node: usize,
     state: usize,
     v: usize,
     plan: &Option<Plan>,
     spaces: &mut Workspaces,
-) -> Result<i128, AllocError>
+) -> i128
     requires setting { IsGivenSetting diagram.now profile.now node state }
+    requires totals { HasTotals diagram.now.nodes profile.now totals.now }
     requires within { v < length diagram.now.nodes }
     requires planned { IsPlanIf diagram.now.nodes node v plan.now }
     requires ready { HasSpace diagram.now.nodes node spaces.old }
-    ensures worth { IfOk result (IsWorthIf diagram.now.nodes profile.now node state v) }
-    ensures again { OnOk result (spaces.new ≡ spaces.old) }
+    ensures worth { IsWorthIf diagram.now.nodes profile.now node state v result }
+    ensures again { spaces.new ≡ spaces.old }
 {
     match plan {
-        Some(plan) => worth_at(alloc, diagram, profile, node, state, v, plan, spaces),
-        None => Ok(0),
+        Some(plan) => worth_at(diagram, profile, totals, node, state, v, plan, spaces),
+        None => 0,
     }
 }
 
@@ -97,12 +101,14 @@ fn list_worths(
     alloc: Global,
     diagram: &Diagram,
     profile: &Profile,
+    totals: &[u128],
     node: usize,
     state: usize,
     plans: &[Option<Plan>],
     spaces: &mut Workspaces,
 ) -> Result<Vec<i128>, AllocError>
     requires setting { IsGivenSetting diagram.now profile.now node state }
+    requires totals { HasTotals diagram.now.nodes profile.now totals.now }
     requires planned { HasUtilityPlans diagram.now.nodes node plans.now }
     requires ready { HasSpace diagram.now.nodes node spaces.old }
     ensures { IfOk result (λ v. HasWorthsAt diagram.now.nodes profile.now node state v.items) }
@@ -110,7 +116,8 @@ fn list_worths(
     let mut worths = Vec::with_capacity(alloc, diagram.count())?;
     for v in 0..diagram.count() {
         let plan = &plans[v];
-        worths.push(worth_or_none(alloc, diagram, profile, node, state, v, plan, spaces)?)?;
+        let worth = worth_or_none(diagram, profile, totals, node, state, v, plan, spaces);
+        worths.push(worth)?;
     }
     Ok(worths)
 }
@@ -121,6 +128,7 @@ fn list_gains(
     alloc: Global,
     diagram: &Diagram,
     profile: &Profile,
+    totals: &[u128],
     node: usize,
     state: usize,
     mass: u128,
@@ -128,6 +136,7 @@ fn list_gains(
     spaces: &mut Workspaces,
 ) -> Result<Vec<Ratio>, AllocError>
     requires setting { IsGivenSetting diagram.now profile.now node state }
+    requires totals { HasTotals diagram.now.nodes profile.now totals.now }
     requires planned { HasUtilityPlans diagram.now.nodes node plans.now }
     requires ready { HasSpace diagram.now.nodes node spaces.old }
     requires mass { IsMassAt diagram.now.nodes profile.now node state mass }
@@ -135,7 +144,7 @@ fn list_gains(
     ensures gains { IfOk result (λ v. HasAllGains diagram.now profile.now node state v.items) }
 {
     scopes_of_evidence();
-    let worths = list_worths(alloc, diagram, profile, node, state, plans, spaces)?;
+    let worths = list_worths(alloc, diagram, profile, totals, node, state, plans, spaces)?;
     let mut gains = Vec::with_capacity(alloc, diagram.agents())?;
     for agent in 0..diagram.agents() {
         let stake = Stake {
@@ -170,13 +179,15 @@ pub(crate) fn gains_given(
     ensures gains { IfOk result (λ v. HasAllGains diagram.now profile.now node state v.items) }
 {
     best_given();
-    let mass = mass_at(alloc, diagram, profile, node, state, &plans.alone, spaces)?;
+    let totals = list_totals(alloc, diagram, profile)?;
+    let alone = &plans.alone;
+    let mass = mass_at(diagram, profile, &totals, node, state, alone, spaces);
     if mass == 0 {
         return Err(GivenFault::Impossible);
     }
     let utilities = &plans.utilities;
     let gains = list_gains(
-        alloc, diagram, profile, node, state, mass, utilities, spaces,
+        alloc, diagram, profile, &totals, node, state, mass, utilities, spaces,
     )?;
     Ok(gains)
 }

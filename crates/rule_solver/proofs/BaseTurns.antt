@@ -1,19 +1,21 @@
 -- A base that goes from decision to decision: rules are put in where the next decision asks for others.
-use Rattle.std.proofs.Common.{◌≡◌, ◌∙◌, ◌⊎◌, ◌↔◌, ℕ, zero, suc, ◌+◌, ◌<◌, ◌≤◌, Bool, true, false, List, [], ◌∷◌, ◌++◌, map, length, Contains, get_or, slice_index, refl, sym, ap, subst, inl, inr, arith}
+use Rattle.std.proofs.Common.{◌≡◌, ◌∙◌, ◌⊎◌, ◌↔◌, ℕ, zero, suc, ◌+◌, ◌<◌, ◌≤◌, Bool, true, false, List, [], ◌∷◌, ◌++◌, map, length, Contains, get_or, set, slice_index, refl, sym, ap, subst, inl, inr, arith}
 use Rattle.std.proofs.Math.Decide.{ℕ_discrete}
-use Rattle.std.proofs.lemmas.List.{get_or_default, length-map}
+use Rattle.std.proofs.lemmas.List.{get_or_default, get_or-set_other, get_or-set_same, length-map, length-set}
 use Rattle.std.proofs.lemmas.List.Elements.{Contains-append_left}
 use Rattle.maid_model.specs.Answers.{IsBase, pure_profile}
 use Rattle.maid_model.specs.Graph.{AllDifferent}
-use Rattle.maid_model.specs.Nodes.{IsDecision, decisions_of, states_of}
+use Rattle.maid_model.specs.Nodes.{IsDecision, decisions_of, node_at, states_of}
 use Rattle.maid_model.specs.Profiles.{IsProfile, IsRule, SameRule, Replaces, pure_rule, uniform_rule, uniform_profile}
 use Rattle.maid_model.specs.Relevance.{ReliesOn}
-use Rattle.maid_model.specs.Tables.{weights_of, rule_total}
+use Rattle.maid_model.specs.Tables.{chance_total, rule_total, total_by, weight_total, weights_of}
 use Rattle.maid_model.specs.Views.{NodeView, RuleView, AnswerView}
 use Rattle.node_sets.specs.declared.sets.NodeSet.{NodeSet}
 use Rattle.node_sets.specs.Sets.{IsIn, holds}
-use Rattle.rule_solver.specs.Bases.{IsMixed, Turns}
+use Rattle.rule_solver.specs.declared.bases.TurningBase.{TurningBase}
+use Rattle.rule_solver.specs.Bases.{IsMixed, IsTurningBase, Turns}
 use Rattle.rule_solver.specs.Masses.{KeepsStates}
+use Rattle.rule_solver.specs.Totals.{HasTotals}
 use Rattle.rule_solver.proofs.AnsweredRules.{answered_weights, answered_total, made_weights, made_total, own_rows, rule_stays}
 use Rattle.rule_solver.proofs.BaseLemmas.{decided, rule_of, same_then}
 use Rattle.rule_solver.proofs.Members.{decision_listed}
@@ -82,6 +84,24 @@ in_decided answers k a h e =
     found (x ∷ answers) zero h e = ap (λ (y : AnswerView). y.decision) e
     found (x ∷ answers) (suc k) h e = found answers k (omega arith) e
 
+-- a rule is put in, and its total in the place of the last one's
+pub totals_put : (nodes : List NodeView) (p q : List RuleView) (rule : RuleView) (totals : List ℕ) → HasTotals nodes p totals → Replaces p q rule → IsDecision nodes rule.decision → HasTotals nodes q (set totals rule.decision rule.total)
+totals_put nodes p q rule totals so put is = record {
+  count = length-set totals rule.decision rule.total ∙ so.count;
+  each = λ v h. go v h (ℕ_discrete v rule.decision);
+}
+  where
+    inside : rule.decision < length totals
+    inside = subst (λ n. rule.decision < n) (sym so.count) is.within
+
+    go : (v : ℕ) → v < length nodes → Dec (v ≡ rule.decision) → slice_index (set totals rule.decision rule.total) v ≡ weight_total nodes q v
+    go v h (yes e) =
+        ap (slice_index (set totals rule.decision rule.total)) e ∙ get_or-set_same totals rule.decision rule.total 0 inside ∙ sym put.total
+        ∙ sym (ap (λ k. total_by k (chance_total nodes rule.decision) (rule_total q rule.decision)) is.kind) ∙ sym (ap (weight_total nodes q) e)
+    go v h (no n) =
+        get_or-set_other totals rule.decision v rule.total 0 n ∙ so.each v h
+        ∙ sym (ap (total_by (node_at nodes v).kind (chance_total nodes v)) (put.others v n).total)
+
 -- at first nothing is answered, and all rules are uniform
 pub mixed_start : (nodes : List NodeView) (held : NodeSet) (base : List RuleView) → base ≡ uniform_profile nodes → IsProfile nodes base → ((x : ℕ) → IsIn held x → ⊥) → IsMixed nodes [] held base
 mixed_start nodes held base is profile none = record {
@@ -94,7 +114,7 @@ mixed_start nodes held base is profile none = record {
 
 module _ (nodes : List NodeView) (answers : List AnswerView) (held : NodeSet) (base : List RuleView) (so : IsMixed nodes answers held base) where
   -- more is answered
-  pub mixed_more : (a : AnswerView) → IsMixed nodes (answers ++ a ∷ []) held base
+  mixed_more : (a : AnswerView) → IsMixed nodes (answers ++ a ∷ []) held base
   mixed_more a = record {
     profile = so.profile;
     plain = so.plain;
@@ -186,3 +206,7 @@ module _ (nodes : List NodeView) (answers : List AnswerView) (held : NodeSet) (b
     relied = λ e r. so.pure e ((same e (relied e r)).1 r) r.on_decision;
     others = λ e is none. so.uniform e is (λ i. none ((same e (so.answered e i)).0 i));
   }
+
+-- more is answered, and the base stays
+pub turning_more : (nodes : List NodeView) (answers : List AnswerView) (base : TurningBase) → IsTurningBase nodes answers base → (a : AnswerView) → IsTurningBase nodes (answers ++ a ∷ []) base
+turning_more nodes answers base so a = record { mixed = mixed_more nodes answers base.held base.profile so.mixed a; has_totals = so.has_totals }

@@ -7,6 +7,8 @@ use Rattle.maid_model.specs.Relevance.{ReliesOn}
 use Rattle.maid_model.specs.Views.{NodeView, RuleView, AnswerView}
 use Rattle.node_sets.specs.declared.sets.NodeSet.{NodeSet}
 use Rattle.node_sets.specs.Sets.{IsIn}
+use Rattle.rule_solver.specs.declared.bases.TurningBase.{TurningBase}
+use Rattle.rule_solver.specs.Totals.{HasTotals}
 
 -- the decisions that are answered
 abbrev pub answered_ones : List AnswerView → List ℕ
@@ -34,6 +36,16 @@ pub record IsMixed
   pub pure : (e : ℕ) → IsIn held e → IsDecision nodes e → SameRule base (pure_profile nodes answers) e
   pub uniform : (e : ℕ) → IsDecision nodes e → (IsIn held e → ⊥)
       → SameRule base (uniform_profile nodes) e
+
+-- the base's list has the total of each node's table or rule
+abbrev pub HasTotalsIn : List NodeView → TurningBase → Type 0
+HasTotalsIn nodes base = HasTotals nodes base.profile base.totals.items
+
+-- answered rules at the decisions that it holds, uniform rules at others, and all nodes' totals
+pub record IsTurningBase (nodes : List NodeView) (answers : List AnswerView) (base : TurningBase) :
+    Type 0 where
+  pub mixed : IsMixed nodes answers base.held base.profile
+  pub has_totals : HasTotalsIn nodes base
 
 -- the new set has what the old one has, and the node too
 abbrev pub HoldsToo : ℕ → NodeSet → NodeSet → Type 0

@@ -9,7 +9,6 @@ use Rattle.maid_model.specs.Views.{NodeView, RuleView}
 use Rattle.node_sets.specs.declared.sets.NodeSet.{NodeSet}
 use Rattle.node_sets.specs.Sets.{holds}
 use Rattle.plan_sums.specs.Plans.{PlanView}
-use Rattle.size_precheck.specs.Sizes.{IsMember, SizedPlan}
 
 -- the list has the total of each node's table or rule
 pub record HasTotals (nodes : List NodeView) (p : List RuleView) (totals : List ℕ) : Type 0 where
@@ -25,10 +24,6 @@ FitsByTotals nodes totals plan size = (p : List RuleView) × HasTotals nodes p t
 abbrev pub TellsSmall : List NodeView → List ℕ → PlanView → Bool → Type 0
 TellsSmall nodes totals plan small = (p : List RuleView) → HasTotals nodes p totals
     → IsTrue small ↔ (2 * plan_total nodes p plan ≤ small_size)
-
--- the nodes that the plan keeps or eliminates are below the number
-abbrev pub HasMembersBelow : ℕ → SizedPlan → Type 0
-HasMembersBelow n made = (v : ℕ) → IsMember made v → v < n
 
 -- the product of the listed totals of the set's members
 abbrev pub product_in : List ℕ → NodeSet → ℕ

@@ -10,41 +10,50 @@ ghost use Rattle.relevance_graph.specs.Relevant.{IsRelevance};
 ghost use Rattle.size_precheck.specs.Decisions.{AreDecisionPlans, ArePlans};
 ghost use Rattle.rule_solver.specs.Rooms.{AreReadyForDecision, AreReadyForDecisions};
 ghost use Rattle.rule_solver.specs.Answered.{AreAnswersInOrder, AreRowsAgainst};
+ghost use Rattle.rule_solver.specs.Bases.{HasTotalsIn};
 
-use crate::bases::turn_base;
-use crate::decision_sums::row_sums_by;
+use crate::bases::TurningBase;
+use crate::decision_sums::Setting;
 use crate::rows::answer_rows;
 use crate::spaces::Workspaces;
-use maid_model::{Answer, Diagram, Profile, Row};
-use node_sets::NodeSet;
+use maid_model::{Answer, Diagram, Row};
 use part_laws::{parts_decide, scopes_are_parts};
 use relevance_graph::Relevance;
 use size_precheck::DecisionPlans;
 use std::alloc::{AllocError, Global};
+use weight_scale::decision_scope;
 
 /// What is answered at the decision against the base, by its plans.
 fn answer_decision(
     alloc: Global,
     diagram: &Diagram,
-    base: &Profile,
+    base: &TurningBase,
     decision: usize,
     plans: &DecisionPlans,
     spaces: &mut Workspaces,
 ) -> Result<Vec<Row>, AllocError>
     requires decision { IsDecision diagram.now.nodes decision }
-    requires profile { IsProfile diagram.now.nodes base.now }
-    requires rules { HasSmallRules diagram.now.nodes base.now decision }
+    requires profile { IsProfile diagram.now.nodes base.now.profile }
+    requires rules { HasSmallRules diagram.now.nodes base.now.profile decision }
+    requires totals { HasTotalsIn diagram.now.nodes base.now }
     requires bound { KeepsScopedBounds diagram.now }
     requires planned { AreDecisionPlans diagram.now.nodes decision plans.now }
     requires ready { AreReadyForDecision diagram.now.nodes decision spaces.old }
-    ensures rows { IfOk result (AreRowsAgainst diagram.now base.now decision) }
+    ensures rows { IfOk result (AreRowsAgainst diagram.now base.now.profile decision) }
     ensures again { OnOk result (spaces.new ≡ spaces.old) }
 {
     // The part of the scope has the whole's best states, rows without mass and fractions.
     scopes_are_parts();
     parts_decide();
     let states = diagram.states(decision);
-    let sums = row_sums_by(alloc, diagram, base, decision, plans, spaces)?;
+    let setting = Setting {
+        diagram,
+        base: &base.profile,
+        decision,
+        totals: &base.totals,
+        scope: decision_scope(diagram, decision),
+    };
+    let sums = setting.row_sums(alloc, plans, spaces)?;
     answer_rows(alloc, &sums.gains, &sums.masses, states, diagram.scale())
 }
 
@@ -67,12 +76,9 @@ pub(crate) fn answer_all(
     ensures again { OnOk result (spaces.new ≡ spaces.old) }
 {
     let mut answers = Vec::with_capacity(alloc, order.len())?;
-    let mut base = Profile::uniform(alloc, diagram)?;
-    let mut held = NodeSet::empty();
+    let mut base = TurningBase::uniform(alloc, diagram)?;
     for (place, decision) in order.iter().enumerate() {
-        turn_base(
-            alloc, diagram, relevance, &answers, *decision, &mut base, &mut held,
-        )?;
+        base.turn(alloc, diagram, relevance, &answers, *decision)?;
         let plans = &plans[place];
         let rows = answer_decision(alloc, diagram, &base, *decision, plans, spaces)?;
         answers.push(Answer {

@@ -7,7 +7,7 @@ ghost use Rattle.maid_model.specs.Profiles.{IsProfile};
 ghost use Rattle.maid_model.specs.Scopes.{KeepsScopedBounds};
 ghost use Rattle.part_laws.specs.ScopeLaws.{HasSmallRules};
 ghost use Rattle.size_precheck.specs.Decisions.{AreDecisionPlans};
-ghost use Rattle.rule_solver.specs.Rooms.{AreReadyForDecision, HasRoomForDecision};
+ghost use Rattle.rule_solver.specs.Rooms.{AreLeft, AreReadyForDecision, HasRoomForDecision};
 ghost use Rattle.rule_solver.specs.Settings.{AddsGoalsIn, AreGoalPlansIn, ArePlansIn, AreReadyForDecisionIn, AreReadyForGoal, AreReadyForGoalsIn, AreReadyForRows, AreRowGainsIn, AreRowSumsIn, HasGoalsIn, HasMassesIn, HasRoomForGoalsIn, HoldsSetting, IsGoalIn, IsPlannedForGoal, IsPlannedForRows, IsReadyForGoal, IsReadyForRows, KeepsRoomIn, goals_in, lacking_in_goal, lacking_in_rows, total_in};
 ghost use Rattle.rule_solver.specs.Sums.{AreRowSums, AreRowGains, KeepsRoom};
 
@@ -283,7 +283,7 @@ impl<'a> Setting<'a> {
     }
 
     /// The gains and the masses.
-    fn row_sums(
+    pub(crate) fn row_sums(
         &self,
         alloc: Global,
         plans: &DecisionPlans,
@@ -377,6 +377,32 @@ pub fn row_gains_by(
     setting.row_gains(alloc, &plans.goals, spaces)
 }
 
+/// Workspaces with room for the plans of a decision: those that another run has left, where they have it, and else new
+/// ones. It may be asked where no plan of the decision has more than 4,194,304 cells.
+///
+/// # Errors
+///
+/// Only where memory runs out.
+pub fn spaces_for(
+    alloc: Global,
+    diagram: &Diagram,
+    decision: usize,
+    plans: &DecisionPlans,
+    left: Option<Workspaces>,
+) -> Result<Workspaces, AllocError>
+    requires decision { IsDecision diagram.now.nodes decision }
+    requires planned { AreDecisionPlans diagram.now.nodes decision plans.now }
+    requires room { HasRoomForDecision diagram.now.nodes decision MOST_PLAN_CELLS }
+    requires left { AreLeft left }
+    ensures { IfOk result (AreReadyForDecision diagram.now.nodes decision) }
+{
+    // A plan that is made again has as many cells.
+    greedy_orders();
+    let _count = diagram.count();
+    let cells = most_cells(plans.rows.size().cells, &plans.goals) as usize;
+    Workspaces::with_room(alloc, left, cells)
+}
+
 /// What the states of a decision gain in each row, and the rows' masses, with the profile as base: the sums over the
 /// worlds of the part that the decision's scope makes. A decision's own rule counts in neither.
 ///
@@ -402,11 +428,7 @@ pub fn row_sums(
     requires room { HasRoomForDecision diagram.now.nodes decision MOST_PLAN_CELLS }
     ensures { IfOk result (AreRowSums diagram.now.nodes profile.now decision) }
 {
-    // A plan that is made again has as many cells.
-    greedy_orders();
-    let _count = diagram.count();
     let plans = plan_decision(alloc, diagram, decision)?;
-    let cells = most_cells(plans.rows.size().cells, &plans.goals) as usize;
-    let mut spaces = Workspaces::reserve(alloc, cells)?;
+    let mut spaces = spaces_for(alloc, diagram, decision, &plans, None)?;
     row_sums_by(alloc, diagram, profile, decision, &plans, &mut spaces)
 }

@@ -37,7 +37,7 @@ mod widths;
 mod worths;
 
 pub use bases::base_of;
-pub use decision_sums::{RowSums, Setting, row_gains_by, row_sums, row_sums_by};
+pub use decision_sums::{RowSums, Setting, row_gains_by, row_sums, row_sums_by, spaces_for};
 pub use faults::SolveFault;
 pub use keeping::{KeptDiagram, keep_diagram, kept_diagrams_stand};
 pub use laws::{counted_plans_have_room, measured_plans_have_room, orders_list_decisions};

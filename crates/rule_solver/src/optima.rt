@@ -18,6 +18,7 @@ ghost use Rattle.plan_sums.specs.Plans.{worth_plan};
 ghost use Rattle.relevance_graph.specs.Relevant.{IsRelevance};
 ghost use Rattle.size_precheck.specs.Decisions.{AreDecisionPlans, ArePlans};
 ghost use Rattle.size_precheck.specs.Sizes.{IsPlanned, ArePlansOfWorths};
+ghost use Rattle.rule_solver.specs.Bases.{HasTotalsIn};
 ghost use Rattle.rule_solver.specs.Faults.{solve_fault, solve_pass};
 ghost use Rattle.rule_solver.specs.Kept.{IsKeptDiagram};
 ghost use Rattle.rule_solver.specs.Masses.{IsExpected};
@@ -28,8 +29,8 @@ ghost use Rattle.rule_solver.specs.Totals.{HasTotals};
 ghost use Rattle.rule_solver.specs.Worths.{IsWorthIfOwned, AreWorthsFor};
 
 use crate::SolveFault;
-use crate::bases::turn_base;
-use crate::decision_sums::row_gains_by;
+use crate::bases::TurningBase;
+use crate::decision_sums::Setting;
 use crate::keeping::{KeptDiagram, find_by};
 use crate::limits::{keep_bound, keep_sizes};
 use crate::rows::{first_best, row_gains};
@@ -41,12 +42,11 @@ use eliminate::RunLists;
 use factor_core::Workspace;
 use maid_laws::{answers_are_best, exchange, one_agent};
 use maid_model::{Answer, Diagram, Kind, Profile, Ratio, Row};
-use node_sets::NodeSet;
 use part_laws::{parts_decide, scoped_sums_fit, scopes_are_parts};
 use relevance_graph::Relevance;
 use size_precheck::{DecisionPlans, Plan, RunPlans};
 use std::alloc::{AllocError, Global};
-use weight_scale::agent_scope;
+use weight_scale::{agent_scope, decision_scope};
 
 /// The first best state of a row, where `gains` has a number for each row and state, the state fastest.
 fn choice_at(gains: &[i128], rows: usize, states: usize, row: usize) -> usize
@@ -86,18 +86,20 @@ fn choose_rows(
 fn choose(
     alloc: Global,
     diagram: &Diagram,
-    base: &Profile,
+    base: &TurningBase,
     decision: usize,
     plans: &DecisionPlans,
     spaces: &mut Workspaces,
 ) -> Result<Vec<Row>, AllocError>
     requires decision { IsDecision diagram.now.nodes decision }
-    requires profile { IsProfile diagram.now.nodes base.now }
-    requires rules { HasSmallRules diagram.now.nodes base.now decision }
+    requires profile { IsProfile diagram.now.nodes base.now.profile }
+    requires rules { HasSmallRules diagram.now.nodes base.now.profile decision }
+    requires totals { HasTotalsIn diagram.now.nodes base.now }
     requires bound { KeepsScopedBounds diagram.now }
     requires planned { AreDecisionPlans diagram.now.nodes decision plans.now }
     requires ready { AreReadyForDecision diagram.now.nodes decision spaces.old }
-    ensures rows { IfOk result (λ v. IsChosenBy diagram.now.nodes base.now decision v.items) }
+    ensures rows { IfOk result
+        (λ v. IsChosenBy diagram.now.nodes base.now.profile decision v.items) }
     ensures again { OnOk result (spaces.new ≡ spaces.old) }
 {
     // The part of the scope has the whole's best states.
@@ -105,7 +107,14 @@ fn choose(
     parts_decide();
     let states = diagram.states(decision);
     let rows = diagram.rows(decision);
-    let gains = row_gains_by(alloc, diagram, base, decision, plans, spaces)?;
+    let setting = Setting {
+        diagram,
+        base: &base.profile,
+        decision,
+        totals: &base.totals,
+        scope: decision_scope(diagram, decision),
+    };
+    let gains = setting.row_gains(alloc, &plans.goals, spaces)?;
     choose_rows(alloc, &gains, rows, states)
 }
 
@@ -128,12 +137,9 @@ fn choose_all(
     ensures again { OnOk result (spaces.new ≡ spaces.old) }
 {
     let mut answers = Vec::with_capacity(alloc, order.len())?;
-    let mut base = Profile::uniform(alloc, diagram)?;
-    let mut held = NodeSet::empty();
+    let mut base = TurningBase::uniform(alloc, diagram)?;
     for (place, decision) in order.iter().enumerate() {
-        turn_base(
-            alloc, diagram, relevance, &answers, *decision, &mut base, &mut held,
-        )?;
+        base.turn(alloc, diagram, relevance, &answers, *decision)?;
         let plans = &plans[place];
         let rows = choose(alloc, diagram, &base, *decision, plans, spaces)?;
         answers.push(Answer {

@@ -10,7 +10,7 @@ ghost use Rattle.node_sets.specs.Sets.{IsIn};
 ghost use Rattle.plan_sums.specs.Plans.{PlanView};
 ghost use Rattle.size_precheck.specs.Sizes.{IsPlanned};
 ghost use Rattle.eliminate.specs.Steps.{HasOwnTable};
-ghost use Rattle.rule_solver.specs.Totals.{FitsByTotals, TellsSmall, HasMembersBelow};
+ghost use Rattle.rule_solver.specs.Totals.{FitsByTotals, TellsSmall};
 
 use crate::totals::product_in;
 use maid_model::Diagram;
@@ -22,8 +22,7 @@ const MOST_SMALL: u128 = (1 << 62) - 1;
 
 /// The nodes whose own tables the plan has: its members but for the decision left out.
 fn ruled_nodes(plan: &Plan) -> NodeSet
-    requires members { HasMembersBelow MOST_NODES plan.now }
-    requires without { (d : ℕ) → plan.now.plan.without ≡ Some d → d < MOST_NODES }
+    requires { (d : ℕ) → plan.now.plan.without ≡ Some d → d < MOST_NODES }
     ensures { (v : ℕ) → IsIn result v ↔ HasOwnTable plan.now v }
 {
     let mut ruled = plan.members();

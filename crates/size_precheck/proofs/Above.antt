@@ -1,14 +1,15 @@
 -- From where paths lead to a node, by its parents.
 use Rattle.std.proofs.Common.{◌≡◌, ◌∙◌, ◌⊎◌, ◌↔◌, ℕ, ◌+◌, ◌<◌, ◌≤◌, List, [], ◌∷◌, ◌++◌, length, get_or, refl, sym, ap, subst, inl, inr, arith}
-use Rattle.std.specs.Prelude.{Contains}
-use Rattle.std.proofs.lemmas.Bool.{cases_lt}
-use Rattle.std.proofs.lemmas.List.{get_or_append_left, get_or_at, length_push, get_or_default}
+use Rattle.std.specs.Prelude.{Contains, slice_set}
+use Rattle.std.proofs.lemmas.Bool.{cases_lt, cases_eq}
+use Rattle.std.proofs.lemmas.List.{get_or-set_same, get_or-set_other, get_or_append_left, get_or_at, length_push, get_or_default}
 use Rattle.maid_model.specs.Graph.{Arc, IsPath, Here, Along}
 use Rattle.maid_model.specs.Nodes.{parents_of}
 use Rattle.maid_model.specs.Views.{NodeView}
 use Rattle.node_sets.specs.Sets.{IsIn}
 use Rattle.node_sets.specs.declared.sets.NodeSet.{NodeSet}
 use Rattle.size_precheck.specs.declared.planners.Family.{Family}
+use Rattle.size_precheck.specs.Above.{IsAbove, set_at}
 use Rattle.size_precheck.specs.Families.{family_at, no_family, AreAbove, AreFamilies, IsFamily}
 
 -- the last arc of a path
@@ -52,6 +53,11 @@ above_more nodes v p parents i above of_parent after within at are leads joined 
     arc : Arc nodes p v
     arc = subst (λ (xs : List ℕ). Contains xs p) are (i, within, get_or_default parents i p 0 within ∙ sym at)
 
+-- what stands in the list of parents is a parent
+pub parent_there : (nodes : List NodeView) (v : ℕ) (parents : List ℕ) (i : ℕ) → i < length parents → parents ≡ parents_of nodes v → Arc nodes (get_or parents i 0) v
+parent_there nodes v parents i within are =
+    subst (λ (xs : List ℕ). Contains xs (get_or parents i 0)) are (i, within, get_or_default parents i (get_or parents i 0) 0 within)
+
 pub above_all : (nodes : List NodeView) (v : ℕ) (parents : List ℕ) (i : ℕ) (above : NodeSet) → length parents ≤ i → parents ≡ parents_of nodes v → IsAboveTo nodes v parents i above → (x : ℕ) → IsIn above x ↔ IsPath (Arc nodes) x v
 above_all nodes v parents i above past are h x = (
   h.sound x,
@@ -71,6 +77,16 @@ above_by_search nodes v own above is leads x = (
   (λ m. let h = (leads x).0 m in subst (λ y. IsPath (Arc nodes) x y) ((is h.0).0 h.1) h.2),
   (λ path. (leads x).1 (v, (is v).1 refl, path)),
 )
+
+-- a node's set comes to its place
+pub above_put : (nodes : List NodeView) (sets : List NodeSet) (v : ℕ) (set : NodeSet) → v < length sets → IsAbove nodes v set → (x : ℕ) → ((x ≡ v → ⊥) → IsAbove nodes x (set_at sets x)) → IsAbove nodes x (set_at (slice_set sets v set) x)
+above_put nodes sets v set within is x others = elim (cases_eq x v) as (λ _. IsAbove nodes x (set_at (slice_set sets v set) x)) [
+  | inl e ↦ subst (λ y. IsAbove nodes y (set_at (slice_set sets v set) y)) (sym e) (subst (IsAbove nodes v) (sym (get_or-set_same sets v set none within)) is)
+  | inr n ↦ subst (IsAbove nodes x) (sym (get_or-set_other sets v x set none n)) (others n)
+]
+  where
+    none : NodeSet
+    none = record { words = [] }
 
 -- one family more
 pub families_push : (nodes : List NodeView) (states : List ℕ) (families : List Family) (v : ℕ) (family : Family) → length families ≡ v → IsFamily nodes states v family → AreFamilies nodes states families → AreFamilies nodes states (families ++ family ∷ [])

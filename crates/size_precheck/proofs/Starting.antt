@@ -1,5 +1,5 @@
 -- The nodes of a plan, its first tables, and what is known before the first step.
-use Rattle.std.proofs.Common.{◌≡◌, ◌≢◌, ◌∙◌, ◌⊎◌, ◌↔◌, ℕ, zero, suc, ◌+◌, ◌<◌, ◌≤◌, Bool, true, false, filter, List, [], ◌∷◌, ◌++◌, length, get_or, refl, sym, ap, subst, inl, inr, arith, Option, Some, None}
+use Rattle.std.proofs.Common.{◌≡◌, ◌≢◌, ◌∙◌, ◌⊎◌, ◌↔◌, ℕ, zero, suc, ◌+◌, ◌<◌, ◌≤◌, Bool, true, false, not, filter, List, [], ◌∷◌, ◌++◌, length, get_or, refl, sym, ap, subst, inl, inr, arith, Option, Some, None}
 use Rattle.std.specs.Prelude.{Contains, slice_index, slice_index_or, replicate, set}
 use Rattle.std.specs.List.{range_with_len}
 use Rattle.std.proofs.lemmas.Bool.{cases_lt, cases_eq}
@@ -14,7 +14,7 @@ use Rattle.maid_model.specs.Views.{NodeView}
 use Rattle.node_sets.specs.Sets.{holds, IsIn}
 use Rattle.node_sets.specs.declared.sets.NodeSet.{NodeSet}
 use Rattle.plan_sums.specs.Laws.{TestsPlanNodes}
-use Rattle.plan_sums.specs.Plans.{PlanView, in_plan, plan_nodes}
+use Rattle.plan_sums.specs.Plans.{PlanView, has, in_plan, plan_nodes, eliminated_nodes}
 use Rattle.plan_sums.specs.Sizes.{IsPlan}
 use Rattle.size_precheck.specs.declared.joints.Joint.{Joint}
 use Rattle.size_precheck.specs.declared.joints.Table.{Table}
@@ -96,6 +96,12 @@ in_numbers p n v = (
   (λ m. let a = among_filter p v (range_with_len 0 n) (among_from_contains (filter p (range_with_len 0 n)) v m) in (let l = (range_within 0 n v a.0).1 in omega arith, a.1)),
   (λ h. contains_from_among (filter p (range_with_len 0 n)) v (filter_has p v (range_with_len 0 n) (range_has 0 n v (omega arith) (let l = h.0 in omega arith)) h.1)),
 )
+
+-- an eliminated node is one of the list
+pub step_known : (nodes : List NodeView) (plan : PlanView) (v : ℕ) → Contains (eliminated_nodes nodes plan) v → v < length nodes
+step_known nodes plan v m =
+    let left = among_filter (λ u. not (has plan.keep u)) v (plan_nodes nodes plan) (among_from_contains (eliminated_nodes nodes plan) v m) in
+    ((in_numbers (in_plan nodes plan) (length nodes) v).0 (contains_from_among (plan_nodes nodes plan) v left.0)).0
 
 module _ (nodes : List NodeView) (keep : List ℕ) (utility : Option ℕ) (graph : IsGraph nodes)
     (asked : IsPlan nodes (record { keep = keep; without = None; utility = utility })) (tested : TestsPlanNodes) where

@@ -1,7 +1,6 @@
--- What all plans of a diagram share. Only private functions cite this file.
+-- What all plans of a diagram share. Public calls cite of this file only that a planner knows the nodes.
 use Rattle.std.specs.Prelude.{◌≡◌, ◌≢◌, ◌⊎◌, ◌↔◌, ℕ, ◌<◌, ◌+◌, Bool, List, [], ◌++◌, map, length, slice_index_or, Contains, Option, option_to_list}
 use Rattle.maid_model.specs.declared.diagrams.Kind.TheVariants.{Utility}
-use Rattle.maid_model.specs.Graph.{Arc, IsPath}
 use Rattle.maid_model.specs.Nodes.{node_at, parents_of}
 use Rattle.maid_model.specs.Views.{NodeView, DiagramView}
 use Rattle.node_sets.specs.declared.sets.TheConstants.{MOST_NODES}
@@ -12,6 +11,7 @@ use Rattle.size_precheck.specs.declared.joints.Known.{Known}
 use Rattle.size_precheck.specs.declared.planners.Family.{Family}
 use Rattle.size_precheck.specs.declared.planners.Planner.{Planner}
 use Rattle.size_precheck.specs.declared.simulation.Start.{Start}
+use Rattle.size_precheck.specs.Above.{IsAbove}
 use Rattle.size_precheck.specs.Joints.{counted_over, family_test, joint_at, parents_test, AreStateCounts, IsCountedAt, IsListOf, IsGreedyStart}
 
 -- what is known of a number that no node has
@@ -36,7 +36,7 @@ pub record IsFamily
   pub tag : family.table.tag ≡ v
   pub scope : (u : ℕ) → IsIn family.table.scope u ↔ IsOfFamily nodes v u
   pub cells : family.cells ≡ counted_over states (holds family.table.scope)
-  pub above : (u : ℕ) → IsIn family.above u ↔ IsPath (Arc nodes) u v
+  pub above : IsAbove nodes v family.above
 
 -- so it is of the first nodes
 abbrev pub AreFamilies : List NodeView → List ℕ → List Family → Type 0
@@ -45,8 +45,7 @@ AreFamilies nodes states families =
 
 -- of these alone from where paths lead to them
 abbrev pub AreAbove : List NodeView → List Family → Type 0
-AreAbove nodes families = (v : ℕ) → v < length families → (u : ℕ)
-    → IsIn (family_at families v).above u ↔ IsPath (Arc nodes) u v
+AreAbove nodes families = (v : ℕ) → v < length families → IsAbove nodes v (family_at families v).above
 
 -- the joint of y among the tables of these nodes, each over the node and its parents
 pub record IsJointAmong (nodes : List NodeView) (Of : ℕ → Type 0) (y : ℕ) (joint : Joint) : Type 0 where

@@ -1,3 +1,4 @@
+pub mod Above
 pub mod Counts
 pub mod Greedy
 pub mod Sizes

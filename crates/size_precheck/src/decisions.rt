@@ -83,8 +83,8 @@ fn plan_goals(
     gain_plans(alloc, diagram, planner, decision, &goals)
 }
 
-/// The plans of a decision, by what is known of the diagram.
-pub(crate) fn decision_by(
+/// What `plan_decision` tells, by what all plans of the diagram share.
+pub fn plan_decision_by(
     alloc: Global,
     diagram: &Diagram,
     planner: &Planner,
@@ -110,5 +110,5 @@ pub fn plan_decision(
     ensures { IfOk result (AreDecisionPlans diagram.now.nodes decision) }
 {
     let planner = Planner::new(alloc, diagram)?;
-    decision_by(alloc, diagram, &planner, decision)
+    plan_decision_by(alloc, diagram, &planner, decision)
 }

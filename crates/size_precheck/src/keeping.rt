@@ -8,7 +8,7 @@ ghost use Rattle.node_sets.specs.declared.sets.TheConstants.{MOST_NODES};
 ghost use Rattle.size_precheck.specs.Kept.{AreWorthsBeside, FollowDecisions, IsFoundInKept, IsKept, IsKeptRun, IsWorthBeside};
 ghost use Rattle.size_precheck.specs.Sizes.{ArePlansOfWorths, IsPlanned, ListsDecisions};
 
-use crate::decisions::{DecisionPlans, decision_by};
+use crate::decisions::{DecisionPlans, plan_decision_by};
 use crate::kinds::worth_by;
 use crate::planners::Planner;
 use crate::plans::Plan;
@@ -50,7 +50,7 @@ fn keep_decisions(
     let mut kept = Vec::new(alloc);
     for decision in 0..diagram.count() {
         if diagram.is_decision(decision) {
-            let plans = decision_by(alloc, diagram, planner, decision)?;
+            let plans = plan_decision_by(alloc, diagram, planner, decision)?;
             kept.push(KeptPlans { decision, plans })?;
         }
     }
@@ -104,7 +104,7 @@ fn decision_with(
 {
     match copy_kept(alloc, kept, decision)? {
         Some(plans) => Ok(plans),
-        None => decision_by(alloc, diagram, planner, decision),
+        None => plan_decision_by(alloc, diagram, planner, decision),
     }
 }
 

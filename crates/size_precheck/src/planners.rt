@@ -2,17 +2,18 @@
 
 ghost use Rattle.std.specs.Prelude.{◌≡◌, ◌<◌, ◌↔◌, ℕ, length, IfOk, OnOk};
 ghost use Rattle.maid_model.specs.Diagrams.{IsDiagram};
-ghost use Rattle.maid_model.specs.Graph.{Arc, IsPath};
 ghost use Rattle.node_sets.specs.declared.sets.TheConstants.{MOST_NODES};
 ghost use Rattle.node_sets.specs.Sets.{IsIn};
-ghost use Rattle.size_precheck.specs.Families.{AreAbove, AreFamilies, AreJointsOfAll, IsFamily, IsOfFamily, IsPlanner, TakesFamily};
+ghost use Rattle.size_precheck.specs.Above.{AreAllAbove};
+ghost use Rattle.size_precheck.specs.Families.{AreFamilies, AreJointsOfAll, IsFamily, IsOfFamily, IsPlanner, TakesFamily};
 ghost use Rattle.size_precheck.specs.Joints.{AreCounted};
 
 use crate::counts::count_cells;
 use crate::joints::{Joint, Table, put_table};
+use crate::nodes_above::list_above;
 use crate::starts::{list_states, node_table};
 use maid_model::{Diagram, Kind};
-use node_sets::{NodeSet, ancestors};
+use node_sets::NodeSet;
 use std::alloc::{AllocError, Global};
 
 /// What is known of a node, whatever the plan.
@@ -26,48 +27,32 @@ pub struct Family {
     pub above: NodeSet,
 }
 
-/// What is known of a diagram, whatever the plan.
+/// What is known of a diagram, whatever the plan. A caller that makes several plans makes it once.
 #[derive(Drop)]
 pub struct Planner {
     /// The counts of states of all numbers, 1 where there is no node.
-    pub states: Vec<u64>,
+    pub(crate) states: Vec<u64>,
     /// One for each node.
-    pub families: Vec<Family>,
+    pub(crate) families: Vec<Family>,
     /// For each node the tables of chance and decision nodes that hold it.
-    pub joints: Vec<Joint>,
+    pub(crate) joints: Vec<Joint>,
     /// The cells of the joined sets of these.
-    pub counts: Vec<u64>,
+    pub(crate) counts: Vec<u64>,
 }
 
-/// The node, and all from which a path of arcs leads to it. Where its parents stand before it, their sets are joined.
-fn nodes_above(diagram: &Diagram, families: &[Family], v: usize) -> NodeSet
-    requires within { v < length diagram.now.nodes }
-    requires earlier { AreAbove diagram.now.nodes families.now }
-    ensures { (u : ℕ) → IsIn result u ↔ IsPath (Arc diagram.now.nodes) u v }
-{
-    let parents = diagram.parents(v);
-    let mut above = NodeSet::of(v);
-    for parent in parents {
-        if *parent >= families.len() {
-            return ancestors(diagram, NodeSet::of(v));
-        }
-        above = above.union(&families[*parent].above);
-    }
-    above
-}
-
-/// What is known of the node, by what is known of those before it.
-fn family_of(diagram: &Diagram, states: &[u64], families: &[Family], v: usize) -> Family
+/// What is known of the node, by the sets of what stands above.
+fn family_of(diagram: &Diagram, states: &[u64], above: &[NodeSet], v: usize) -> Family
     requires within { v < length diagram.now.nodes }
     requires states { length states.now ≡ MOST_NODES }
-    requires earlier { AreFamilies diagram.now.nodes states.now families.now }
+    requires all { length above.now ≡ length diagram.now.nodes }
+    requires above { AreAllAbove diagram.now.nodes above.now }
     ensures { IsFamily diagram.now.nodes states.now v result }
 {
     let table = node_table(diagram, v);
     Family {
         table,
         cells: count_cells(states, &table.scope),
-        above: nodes_above(diagram, families, v),
+        above: above[v],
     }
 }
 
@@ -81,10 +66,10 @@ fn list_families(
     ensures len { IfOk result (λ families. length families.items ≡ length diagram.now.nodes) }
     ensures families { IfOk result (λ list. AreFamilies diagram.now.nodes states.now list.items) }
 {
+    let above = list_above(alloc, diagram)?;
     let mut families = Vec::with_capacity(alloc, diagram.count())?;
     for v in 0..diagram.count() {
-        let family = family_of(diagram, states, &families, v);
-        families.push(family)?;
+        families.push(family_of(diagram, states, &above, v))?;
     }
     Ok(families)
 }
@@ -140,8 +125,12 @@ fn list_counts(alloc: Global, states: &[u64], joints: &[Joint]) -> Result<Vec<u6
 }
 
 impl Planner {
-    /// What is known of the diagram. It goes over the arcs a few times, and as often again for each node of which a parent
-    /// stands behind it in text order.
+    /// What is known of the diagram. It goes over the arcs a few times, and once more for each arc of a path that leads
+    /// back in text order, up to sixteen times. It takes memory for a few lists of as many entries as there are nodes.
+    ///
+    /// # Errors
+    ///
+    /// Only where memory runs out.
     pub fn new(alloc: Global, diagram: &Diagram) -> Result<Planner, AllocError>
         ensures planner { IfOk result (IsPlanner diagram.now.nodes) }
         ensures diagram { OnOk result (IsDiagram diagram.now) }

@@ -1,9 +1,8 @@
 //! Plans of elimination.
 
-ghost use Rattle.std.specs.Prelude.{◌≡◌, ◌↔◌, ◌<◌, ◌≤◌, ℕ, IfOk};
+ghost use Rattle.std.specs.Prelude.{◌≡◌, ◌↔◌, ◌≤◌, ℕ, IfOk};
 ghost use Rattle.maid_model.specs.declared.limits.TheConstants.{COUNT_END};
 ghost use Rattle.maid_model.specs.Diagrams.{IsDiagram};
-ghost use Rattle.node_sets.specs.declared.sets.TheConstants.{MOST_NODES};
 ghost use Rattle.node_sets.specs.Sets.{IsIn};
 ghost use Rattle.size_precheck.specs.Families.{IsPlanner};
 ghost use Rattle.size_precheck.specs.Joints.{IsRunOfPlan};
@@ -28,9 +27,13 @@ pub struct Plan {
     utility: Option<usize>,
     steps: Vec<usize>,
     size: Size,
+    /// The kept nodes and the steps.
+    members: NodeSet,
 }
 
 impl Model for Plan {
+    ghost use Rattle.std.specs.Prelude.{◌↔◌, ◌⊎◌, ℕ, Contains};
+    ghost use Rattle.node_sets.specs.Sets.{IsIn};
     ghost use Rattle.size_precheck.specs.Sizes.{SizedPlan};
 
     ghost Value = { SizedPlan };
@@ -41,6 +44,9 @@ impl Model for Plan {
           steps = p.steps.items;
           size = p.size;
         } };
+
+    ghost invariant = { λ p. (v : ℕ)
+        → IsIn p.members v ↔ (Contains p.keep.items v ⊎ Contains p.steps.items v) };
 }
 
 impl Plan {
@@ -74,12 +80,9 @@ impl Plan {
 
     /// The nodes of the plan: those that it keeps, and those that it eliminates. It takes no memory.
     pub fn members(&self) -> NodeSet
-        requires { (v : ℕ) → IsMember self.now v → v < MOST_NODES }
         ensures { (v : ℕ) → IsIn result v ↔ IsMember self.now v }
     {
-        let mut nodes = set_of(self.keep());
-        nodes.insert_all(self.steps());
-        nodes
+        self.members
     }
 
     /// How many cells its tables have together, and its work. It takes no memory.
@@ -99,6 +102,7 @@ impl Plan {
             utility: self.utility,
             steps: Vec::from_slice(alloc, &self.steps)?,
             size: self.size,
+            members: self.members,
         })
     }
 }
@@ -128,7 +132,7 @@ fn run_by(
     eliminate_all(alloc, states, start, waiting)
 }
 
-/// The plan of what is asked, by what is known of the diagram.
+/// The plan that `make_plan` makes of what is asked, by what all plans of the diagram share.
 pub fn plan_by(
     alloc: Global,
     diagram: &Diagram,
@@ -137,17 +141,19 @@ pub fn plan_by(
     without: Option<usize>,
     utility: Option<usize>,
 ) -> Result<Plan, AllocError>
-    requires diagram { IsDiagram diagram.now }
     requires planner { IsPlanner diagram.now.nodes planner.now }
     requires asked { CanBePlanned diagram.now.nodes (plan_of keep.now without utility) }
     ensures { IfOk result (IsMade diagram.now.nodes (plan_of keep.now without utility)) }
 {
+    let _count = diagram.count();
     let run = run_by(alloc, diagram, planner, keep, without, utility)?;
     let states = planner.states.as_slice();
     let kept = set_of(keep);
     let last = count_cells(states, &kept);
     let cells = add(run.cells, last);
     let work = add(run.work, multiply(last, run.live as u64));
+    let mut members = kept;
+    members.insert_all(&run.steps);
     Ok(Plan {
         keep: Vec::from_slice(alloc, keep)?,
         without,
@@ -157,6 +163,7 @@ pub fn plan_by(
             cells: cells as u128,
             work: work as u128,
         },
+        members,
     })
 }
 
@@ -169,7 +176,7 @@ pub fn plan_by(
 /// sets of the node's neighbours anew, and moves those of other cells than before to the classes of these: at most as many
 /// steps of counting as the joined sets have pairs of nodes, and for each move a look at eight classes more than nodes wait
 /// at most. It takes memory for a few lists of as many entries as there are nodes. First it makes what all plans of a diagram
-/// share, which `plan_decision` and `plan_run` make once for all of theirs.
+/// share; a caller that makes several plans makes that once, and each of them with `plan_by`.
 pub fn make_plan(
     alloc: Global,
     diagram: &Diagram,

@@ -3,6 +3,7 @@
 ghost use Rattle.std.specs.Prelude.{◌≡◌, ◌≤◌, IfOk};
 ghost use Rattle.maid_model.specs.declared.limits.TheConstants.{COUNT_END};
 ghost use Rattle.size_precheck.specs.Decisions.{ArePlans};
+ghost use Rattle.size_precheck.specs.Families.{IsPlanner};
 ghost use Rattle.size_precheck.specs.Kept.{IsKeptRun};
 ghost use Rattle.size_precheck.specs.Runs.{joined_size, IncludesGains, IncludesPlans, IncludesRows, IsSizeOfRunWith};
 ghost use Rattle.size_precheck.specs.Sizes.{ListsDecisions, IsSizeOfRun, ArePlansOfWorths};
@@ -93,6 +94,24 @@ fn with_size(decisions: Vec<DecisionPlans>, worths: Vec<Plan>) -> RunPlans
     }
 }
 
+/// What `plan_run` tells, by what all plans of the diagram share.
+pub fn plan_run_by(
+    alloc: Global,
+    diagram: &Diagram,
+    planner: &Planner,
+    order: &[usize],
+) -> Result<RunPlans, AllocError>
+    requires order { ListsDecisions diagram.now.nodes order.now }
+    requires planner { IsPlanner diagram.now.nodes planner.now }
+    ensures plans { IfOk result (λ run. ArePlans diagram.now.nodes order.now run.decisions.items) }
+    ensures worths { IfOk result (λ run. ArePlansOfWorths diagram.now.nodes run.worths.items) }
+    ensures size { IfOk result (λ run. IsSizeOfRun diagram.now.nodes order.now run.size) }
+{
+    let decisions = plan_decisions(alloc, diagram, planner, &[], order)?;
+    let worths = worths_by(alloc, diagram, planner)?;
+    Ok(with_size(decisions, worths))
+}
+
 /// The plans of a run that solves the decisions in this order, made once and kept, and the size of the run: the greatest
 /// cells of its plans, and their work together.
 ///
@@ -106,9 +125,7 @@ pub fn plan_run(alloc: Global, diagram: &Diagram, order: &[usize]) -> Result<Run
     ensures size { IfOk result (λ run. IsSizeOfRun diagram.now.nodes order.now run.size) }
 {
     let planner = Planner::new(alloc, diagram)?;
-    let decisions = plan_decisions(alloc, diagram, &planner, &[], order)?;
-    let worths = worths_by(alloc, diagram, &planner)?;
-    Ok(with_size(decisions, worths))
+    plan_run_by(alloc, diagram, &planner, order)
 }
 
 /// The same where plans are kept: those are copied, and only those of other decisions are made. Each decision of the order

@@ -46,6 +46,9 @@ returns-in_err-push-clause-plans c = IfOk-from_err _ _ c.from_residual-in_err-pu
 pub returns-in_err-push-clause-size : goal.returns-in_err-push-clause-size
 returns-in_err-push-clause-size c = IfOk-from_err _ _ c.from_residual-in_err-push.ensures.0
 
+pub add_utility-requires-clause-planner : goal.add_utility-requires-clause-planner
+add_utility-requires-clause-planner c = c.requires.planner
+
 pub add_utility-requires-clause-node : goal.add_utility-requires-clause-node
 add_utility-requires-clause-node c = c.requires.within
 

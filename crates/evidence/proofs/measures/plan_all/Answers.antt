@@ -6,17 +6,35 @@ use Rattle.evidence.specs.Sizes.{plan_given}
 use Rattle.evidence.proofs.Measured.{size_few, size_push}
 use Rattle.evidence.proofs.measures.plan_all.Goals as goal
 
-pub plan_run-requires : goal.plan_run-requires
-plan_run-requires c = c.orders_list_decisions.ensures c.args.diagram.now.nodes c.args.order.now c.requires.order
+pub plan_run_by-requires-clause-planner : goal.plan_run_by-requires-clause-planner
+plan_run_by-requires-clause-planner c = c.in_ok-planner.ensures.planner
+
+pub add_plan-requires-clause-planner : goal.add_plan-requires-clause-planner
+add_plan-requires-clause-planner c = c.in_ok-planner.ensures.planner
+
+pub add_utilities-requires-clause-planner : goal.add_utilities-requires-clause-planner
+add_utilities-requires-clause-planner c = c.in_ok-planner.ensures.planner
+
+pub plan_run_by-requires-clause-order : goal.plan_run_by-requires-clause-order
+plan_run_by-requires-clause-order c = c.orders_list_decisions.ensures c.args.diagram.now.nodes c.args.order.now c.requires.order
 
 pub returns-in_err-run-clause-plans : goal.returns-in_err-run-clause-plans
-returns-in_err-run-clause-plans c = IfOk-from_err _ _ c.from_residual.ensures.0
+returns-in_err-run-clause-plans c = IfOk-from_err _ _ c.from_residual-in_err-run.ensures.0
+
+pub returns-in_err-planner-clause-plans : goal.returns-in_err-planner-clause-plans
+returns-in_err-planner-clause-plans c = IfOk-from_err _ _ c.from_residual.ensures.0
 
 pub returns-in_err-run-clause-further : goal.returns-in_err-run-clause-further
-returns-in_err-run-clause-further c = IfOk-from_err _ _ c.from_residual.ensures.0
+returns-in_err-run-clause-further c = IfOk-from_err _ _ c.from_residual-in_err-run.ensures.0
+
+pub returns-in_err-planner-clause-further : goal.returns-in_err-planner-clause-further
+returns-in_err-planner-clause-further c = IfOk-from_err _ _ c.from_residual.ensures.0
 
 pub returns-in_err-run-clause-size : goal.returns-in_err-run-clause-size
-returns-in_err-run-clause-size c = IfOk-from_err _ _ c.from_residual.ensures.0
+returns-in_err-run-clause-size c = IfOk-from_err _ _ c.from_residual-in_err-run.ensures.0
+
+pub returns-in_err-planner-clause-size : goal.returns-in_err-planner-clause-size
+returns-in_err-planner-clause-size c = IfOk-from_err _ _ c.from_residual.ensures.0
 
 pub returns-in_err-alone-clause-plans : goal.returns-in_err-alone-clause-plans
 returns-in_err-alone-clause-plans c = IfOk-from_err _ _ c.from_residual-in_err-alone.ensures.0

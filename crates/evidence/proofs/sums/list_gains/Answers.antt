@@ -32,6 +32,9 @@ loop-agent-preserved c =
 pub list_worths-requires-clause-setting : goal.list_worths-requires-clause-setting
 list_worths-requires-clause-setting c = c.requires.setting
 
+pub list_worths-requires-clause-totals : goal.list_worths-requires-clause-totals
+list_worths-requires-clause-totals c = c.requires.totals
+
 pub list_worths-requires-clause-planned : goal.list_worths-requires-clause-planned
 list_worths-requires-clause-planned c = c.requires.planned
 

@@ -1,13 +1,12 @@
 use Rattle.std.proofs.Common.{◌∙◌, ◌≤◌, ◌*◌, sym, subst, ap, arith}
+use Rattle.std.specs.Int.{w128}
+use Rattle.std.proofs.lemmas.Int.{to_z-of_z}
 use Rattle.cell_rings.specs.Rings.{most_size}
 use Rattle.eliminate.specs.Results.{plan_total}
 use Rattle.plan_sums.specs.Plans.{PlanView, gain_cells, plan_sum}
 use Rattle.rule_solver.specs.Rooms.{HasCellsAtMost}
-use Rattle.rule_solver.specs.StateSums.{IsSumAt}
 use Rattle.size_precheck.specs.Sizes.{IsPlanned}
-use Rattle.evidence.specs.Stakes.{IsWorthGivenAt}
 use Rattle.evidence.proofs.PlanCells.{utility_fits}
-use Rattle.evidence.proofs.Promises.{if_ok}
 use Rattle.evidence.proofs.sums.worth_at.Goals as goal
 
 pub sum_at-requires-clause-keep : goal.sum_at-requires-clause-keep
@@ -27,13 +26,12 @@ sum_at-requires-clause-ready c =
     let ready = c.requires.ready in
     (ready.0, ready.1, subst (λ (plan : PlanView). HasCellsAtMost c.args.diagram.now.nodes plan ready.0) (sym c.requires.planned.made.plan) ready.2)
 
+pub sum_at-requires-clause-totals : goal.sum_at-requires-clause-totals
+sum_at-requires-clause-totals c = c.requires.totals
+
 pub returns-clause-worth : goal.returns-clause-worth
-returns-clause-worth c =
-    let nodes = c.args.diagram.now.nodes in
-    let p = c.args.profile.now in
-    if_ok c.sum_at.result (IsSumAt nodes p c.args.plan.now.plan c.args.node c.args.state) (IsWorthGivenAt nodes p c.args.node c.args.state c.args.utility)
-    (λ sum h q r at. h q r at ∙ ap (λ (plan : PlanView). plan_sum gain_cells nodes p plan q) c.requires.planned.made.plan)
-    c.sum_at.ensures.sum
+returns-clause-worth c = λ q r at.
+    to_z-of_z w128 c.sum_at.result (record { sfits = c.sum_at.type_inv }) ∙ c.sum_at.ensures.sum q r at ∙ ap (λ (plan : PlanView). plan_sum gain_cells c.args.diagram.now.nodes c.args.profile.now plan q) c.requires.planned.made.plan
 
 pub sum_at-requires-clause-within : goal.sum_at-requires-clause-within
 sum_at-requires-clause-within c = c.requires.setting.within

@@ -2,20 +2,20 @@ use Rattle.std.proofs.Common.{rules, arith, ◌≡◌, [], ◌<◌, length, ◌�
 use Rattle.maid_model.specs.Answers.{IsBase, pure_profile}
 use Rattle.maid_model.specs.Graph.{AllDifferent}
 use Rattle.rule_solver.specs.Answered.{AnswersAll}
-use Rattle.rule_solver.specs.Bases.{IsMixed}
+use Rattle.rule_solver.specs.Bases.{IsTurningBase}
 use Rattle.rule_solver.specs.Rooms.{AreReady}
 use Rattle.std.proofs.lemmas.Slice.Zip.{AllZip-long}
 use Rattle.size_precheck.specs.Sizes.{ArePlansOf}
 use Rattle.rule_solver.proofs.GoalPlans.{zip_at}
 use Rattle.rule_solver.proofs.AnswerLemmas.{answers-none, answers-push-all}
-use Rattle.rule_solver.proofs.BaseTurns.{mixed_more, mixed_start}
+use Rattle.rule_solver.proofs.BaseTurns.{turning_more}
 use Rattle.rule_solver.proofs.Orders.{first_differ, placed_decision, relied_before}
 use Rattle.std.proofs.lemmas.List.{take_all}
 use Rattle.rule_solver.proofs.answering.answer_all.Goals as goal
 
 -- a decision of the order relies on answered decisions alone
-pub turn_base-requires : goal.turn_base-requires
-turn_base-requires c =
+pub turn-requires : goal.turn-requires
+turn-requires c =
     let nodes = c.args.diagram.now.nodes in
     let order = c.args.order.now in
     let so : AnswersAll nodes c.args.diagram.now.decimals (take c.loop-place.place order) c.deref.result.now = subst (AnswersAll nodes c.args.diagram.now.decimals (take c.loop-place.place order)) (sym c.deref.ensures.value) c.loop-place.invariant.0 in
@@ -25,7 +25,7 @@ turn_base-requires c =
       fits = so.fits;
       once = subst AllDifferent (sym so.follow) (first_differ nodes order c.requires.order c.loop-place.place);
       relied = λ e r. subst (λ l. Contains l e) (sym so.follow) (relied_before nodes order c.requires.order c.loop-place.place c.loop-place-test.true e r);
-      mixed = subst (λ l. IsMixed nodes l c.loop-place.held c.loop-place.base) (sym c.deref.ensures.value) c.loop-place.invariant.2;
+      turning = subst (λ l. IsTurningBase nodes l c.loop-place.base) (sym c.deref.ensures.value) c.loop-place.invariant.2;
     }
 
 pub loop-place-init : goal.loop-place-init
@@ -34,14 +34,17 @@ loop-place-init c =
     let none : c.in_ok-answers.answers.items ≡ [] = c.in_ok-answers.ensures.items in (
       subst (AnswersAll nodes c.args.diagram.now.decimals (take 0 c.args.order.now)) (sym none) (answers-none nodes c.args.diagram.now.decimals c.args.order.now),
       refl,
-      subst (λ l. IsMixed nodes l c.empty-held.result c.in_ok-base.base) (sym none) (mixed_start nodes c.empty-held.result c.in_ok-base.base c.in_ok-base.ensures.rules c.in_ok-base.ensures.profile c.empty-held.ensures),
+      subst (λ l. IsTurningBase nodes l c.in_ok-base.base) (sym none) c.in_ok-base.ensures,
     )
 
 pub answer_decision-requires-clause-rules : goal.answer_decision-requires-clause-rules
-answer_decision-requires-clause-rules c e is apart = c.in_ok-turn_base.ensures.room e is
+answer_decision-requires-clause-rules c e is apart = c.in_ok-turn.ensures.room e is
 
 pub answer_decision-requires-clause-profile : goal.answer_decision-requires-clause-profile
-answer_decision-requires-clause-profile c = c.in_ok-turn_base.ensures.base.profile
+answer_decision-requires-clause-profile c = c.in_ok-turn.ensures.base.profile
+
+pub answer_decision-requires-clause-totals : goal.answer_decision-requires-clause-totals
+answer_decision-requires-clause-totals c = c.in_ok-turn.ensures.turning.has_totals
 
 pub answer_decision-requires-clause-ready : goal.answer_decision-requires-clause-ready
 answer_decision-requires-clause-ready c = (
@@ -56,12 +59,12 @@ loop-place-preserved c =
     let order = c.args.order.now in
     let decision = slice_index order c.loop-place.place in (
       subst (AnswersAll nodes c.args.diagram.now.decimals (take (c.loop-place.place + 1) order)) (sym c.in_ok-push.ensures.items)
-          (answers-push-all nodes c.args.diagram.now.decimals order c.loop-place.place c.loop-place.answers.items c.turn_base.new.base c.in_ok-rows.rows.items c.requires.order c.loop-place-test.true c.loop-place.invariant.0
-          (subst (λ l. IsBase nodes (pure_profile nodes l) decision c.turn_base.new.base) c.deref.ensures.value c.in_ok-turn_base.ensures.base)
+          (answers-push-all nodes c.args.diagram.now.decimals order c.loop-place.place c.loop-place.answers.items c.turn.new.self.profile c.in_ok-rows.rows.items c.requires.order c.loop-place-test.true c.loop-place.invariant.0
+          (subst (λ l. IsBase nodes (pure_profile nodes l) decision c.turn.new.self.profile) c.deref.ensures.value c.in_ok-turn.ensures.base)
           c.in_ok-rows.ensures.rows),
       c.in_ok-rows.ensures.again ∙ c.loop-place.invariant.1,
-      subst (λ l. IsMixed nodes l c.turn_base.new.held c.turn_base.new.base) (sym c.in_ok-push.ensures.items)
-          (mixed_more nodes c.loop-place.answers.items c.turn_base.new.held c.turn_base.new.base (subst (λ l. IsMixed nodes l c.turn_base.new.held c.turn_base.new.base) c.deref.ensures.value c.in_ok-turn_base.ensures.mixed)
+      subst (λ l. IsTurningBase nodes l c.turn.new.self) (sym c.in_ok-push.ensures.items)
+          (turning_more nodes c.loop-place.answers.items c.turn.new.self (subst (λ l. IsTurningBase nodes l c.turn.new.self) c.deref.ensures.value c.in_ok-turn.ensures.turning)
           (record { decision = decision; rows = c.in_ok-rows.rows.items })),
     )
 

@@ -8,7 +8,9 @@ use Rattle.maid_model.specs.Gains.{gain_in}
 use Rattle.part_laws.specs.PartLaws.{DecidesAlike}
 use Rattle.rule_solver.specs.Answered.{IsAnsweredBy}
 use Rattle.rule_solver.specs.Rows.{AnswersRows}
+use Rattle.rule_solver.specs.Totals.{HasTotals}
 use Rattle.rule_solver.specs.Sums.{IsRowSums}
+use Rattle.rule_solver.specs.Totals.{HasTotals}
 use Rattle.rule_solver.proofs.DecisionLemmas.{answered_by}
 use Rattle.rule_solver.proofs.PlanLemmas.{values_bound, within_bound}
 use Rattle.rule_solver.proofs.answering.answer_decision.Goals as goal
@@ -16,16 +18,16 @@ use Rattle.rule_solver.proofs.answering.answer_decision.Goals as goal
 pub returns-clause-rows : goal.returns-clause-rows
 returns-clause-rows c =
     let nodes = c.args.diagram.now.nodes in
-    let base = c.args.base.now in
+    let base = c.args.base.now.profile in
     let is = c.states-states.ensures.diagram in
     let scope = c.scopes_are_parts.ensures.decisions nodes c.args.decision is.graph c.requires.decision in
     let alike : (row : ℕ) → DecidesAlike nodes base (scope_of nodes c.args.decision) c.args.decision row =
     (λ row. c.parts_decide.ensures.choices nodes base (scope_of nodes c.args.decision) c.args.decision row is.graph is.tables c.requires.profile scope.0 c.requires.decision scope.2 scope.3) in
-    let gains = c.deref.result.now in
-    let masses = c.deref-2.result.now in
+    let gains = c.deref-2.result.now in
+    let masses = c.deref-3.result.now in
     let sums : IsRowSums nodes base c.args.decision gains masses =
-    subst (λ (g : List ℤ). IsRowSums nodes base c.args.decision g masses) (sym c.deref.ensures.value)
-    (subst (λ (m : List ℕ). IsRowSums nodes base c.args.decision c.in_ok-sums.sums.gains.items m) (sym c.deref-2.ensures.value) c.in_ok-sums.ensures.sums) in
+    subst (λ (g : List ℤ). IsRowSums nodes base c.args.decision g masses) (sym c.deref-2.ensures.value)
+    (subst (λ (m : List ℕ). IsRowSums nodes base c.args.decision c.in_ok-sums.sums.gains.items m) (sym c.deref-3.ensures.value) c.in_ok-sums.ensures.sums) in
     IfOk-weaker c.answer_rows.result (λ v. AnswersRows (gain_in gains (states_of nodes c.args.decision)) (slice_index masses) (states_of nodes c.args.decision) (10 ^ c.args.diagram.now.decimals) (length masses) v.items)
     (λ v. IsAnsweredBy nodes c.args.diagram.now.decimals base c.args.decision v.items)
     (λ v h. answered_by nodes c.args.diagram.now.decimals base c.args.decision gains masses v.items alike sums h)
@@ -36,46 +38,40 @@ returns-clause-rows c =
 pub answer_rows-requires-clause-room : goal.answer_rows-requires-clause-room
 answer_rows-requires-clause-room c row h =
     let d = c.args.diagram.now in
-    let masses : c.deref-2.result.now ≡ c.in_ok-sums.sums.masses.items = c.deref-2.ensures.value in
+    let masses : c.deref-3.result.now ≡ c.in_ok-sums.sums.masses.items = c.deref-3.ensures.value in
     let within : slice_index c.in_ok-sums.sums.masses.items row * (10 ^ d.decimals) ≤ greatest_number =
     within_bound (scope_product d.nodes c.args.decision) (10 ^ d.decimals) (greatest_of d.nodes (goals_of d.nodes c.args.decision)) (slice_index c.in_ok-sums.sums.masses.items row)
     (c.in_ok-sums.ensures.room.mass_there row (subst (λ (l : List ℕ). row < length l) masses h)) (c.requires.bound.decisions c.args.decision c.requires.decision) in
-    subst (λ n. slice_index c.deref-2.result.now row * n ≤ greatest_number) (sym c.scale.ensures.scale) (subst (λ (l : List ℕ). slice_index l row * (10 ^ d.decimals) ≤ greatest_number) (sym masses) within)
+    subst (λ n. slice_index c.deref-3.result.now row * n ≤ greatest_number) (sym c.scale.ensures.scale) (subst (λ (l : List ℕ). slice_index l row * (10 ^ d.decimals) ≤ greatest_number) (sym masses) within)
 
 pub answer_rows-requires-clause-small : goal.answer_rows-requires-clause-small
 answer_rows-requires-clause-small c i h =
     let d = c.args.diagram.now in
-    let gains : c.deref.result.now ≡ c.in_ok-sums.sums.gains.items = c.deref.ensures.value in
+    let gains : c.deref-2.result.now ≡ c.in_ok-sums.sums.gains.items = c.deref-2.ensures.value in
     let within : nat_abs (slice_index_or c.in_ok-sums.sums.gains.items i (pos 0)) ≤ greatest_number =
     values_bound (scope_product d.nodes c.args.decision) (10 ^ d.decimals) (greatest_of d.nodes (goals_of d.nodes c.args.decision)) (nat_abs (slice_index_or c.in_ok-sums.sums.gains.items i (pos 0)))
     (c.in_ok-sums.ensures.room.gain i (subst (λ (l : List ℤ). i < length l) gains h)) (c.requires.bound.decisions c.args.decision c.requires.decision) in
     subst (λ (l : List ℤ). nat_abs (slice_index_or l i (pos 0)) ≤ greatest_number) (sym gains) within
 
+-- the setting has the totals of the base
+pub row_sums-requires-clause-setting : goal.row_sums-requires-clause-setting
+row_sums-requires-clause-setting c = record {
+  is_diagram = c.states-states.ensures.diagram;
+  is_decision = c.requires.decision;
+  profile = c.requires.profile;
+  rules = c.requires.rules;
+  bound = c.requires.bound.decisions c.args.decision c.requires.decision;
+  has_totals = subst (HasTotals c.args.diagram.now.nodes c.args.base.now.profile) (sym c.deref.ensures.value) c.requires.totals;
+  is_scope = c.decision_scope.ensures;
+}
+
 pub states-states-requires : goal.states-states-requires
 states-states-requires c = c.requires.decision.within
 
-pub row_sums_by-requires-clause-decision : goal.row_sums_by-requires-clause-decision
-row_sums_by-requires-clause-decision c = c.requires.decision
-
-pub row_sums_by-requires-clause-profile : goal.row_sums_by-requires-clause-profile
-row_sums_by-requires-clause-profile c = c.requires.profile
-
-pub row_sums_by-requires-clause-rules : goal.row_sums_by-requires-clause-rules
-row_sums_by-requires-clause-rules c = c.requires.rules
-
-pub row_sums_by-requires-clause-bound : goal.row_sums_by-requires-clause-bound
-row_sums_by-requires-clause-bound c = c.requires.bound
-
-pub row_sums_by-requires-clause-planned : goal.row_sums_by-requires-clause-planned
-row_sums_by-requires-clause-planned c = c.requires.planned
-
-pub row_sums_by-requires-clause-ready : goal.row_sums_by-requires-clause-ready
-row_sums_by-requires-clause-ready c = c.requires.ready
-
 pub answer_rows-requires-clause-all : goal.answer_rows-requires-clause-all
 answer_rows-requires-clause-all c =
-    let masses : length c.deref-2.result.now ≡ rows_of c.args.diagram.now.nodes c.args.decision = ap (λ (l : List ℕ). length l) c.deref-2.ensures.value ∙ c.in_ok-sums.ensures.sums.mass_count in
-    ap (λ (l : List ℤ). length l) c.deref.ensures.value ∙ c.in_ok-sums.ensures.sums.gain_count ∙ (λ i. sym masses i * sym c.states-states.ensures.states i)
+    let masses : length c.deref-3.result.now ≡ rows_of c.args.diagram.now.nodes c.args.decision = ap (λ (l : List ℕ). length l) c.deref-3.ensures.value ∙ c.in_ok-sums.ensures.sums.mass_count in
+    ap (λ (l : List ℤ). length l) c.deref-2.ensures.value ∙ c.in_ok-sums.ensures.sums.gain_count ∙ (λ i. sym masses i * sym c.states-states.ensures.states i)
 
 pub answer_rows-requires-clause-some : goal.answer_rows-requires-clause-some
 answer_rows-requires-clause-some c =

@@ -3,10 +3,10 @@ use Rattle.std.proofs.lemmas.Slice.Zip.{AllZip-long}
 use Rattle.maid_model.specs.Answers.{IsBase, pure_profile}
 use Rattle.maid_model.specs.Graph.{AllDifferent}
 use Rattle.size_precheck.specs.Sizes.{ArePlansOf}
-use Rattle.rule_solver.specs.Bases.{IsMixed}
+use Rattle.rule_solver.specs.Bases.{IsTurningBase}
 use Rattle.rule_solver.specs.Optima.{ChoosesAll}
 use Rattle.rule_solver.specs.Rooms.{AreReady}
-use Rattle.rule_solver.proofs.BaseTurns.{mixed_more, mixed_start}
+use Rattle.rule_solver.proofs.BaseTurns.{turning_more}
 use Rattle.rule_solver.proofs.ChoiceLemmas.{chosen-none, chosen-push-all}
 use Rattle.rule_solver.proofs.GoalPlans.{zip_at}
 use Rattle.rule_solver.proofs.Orders.{first_differ, placed_decision, relied_before}
@@ -14,8 +14,8 @@ use Rattle.std.proofs.lemmas.List.{take_all}
 use Rattle.rule_solver.proofs.optima.choose_all.Goals as goal
 
 -- a decision of the order relies on decisions before it alone
-pub turn_base-requires : goal.turn_base-requires
-turn_base-requires c =
+pub turn-requires : goal.turn-requires
+turn-requires c =
     let nodes = c.args.diagram.now.nodes in
     let order = c.args.order.now in
     let so : ChoosesAll nodes (take c.loop-place.place order) c.deref.result.now = subst (ChoosesAll nodes (take c.loop-place.place order)) (sym c.deref.ensures.value) c.loop-place.invariant.0 in
@@ -25,7 +25,7 @@ turn_base-requires c =
       fits = so.fits;
       once = subst AllDifferent (sym so.follow) (first_differ nodes order c.requires.order c.loop-place.place);
       relied = λ e r. subst (λ l. Contains l e) (sym so.follow) (relied_before nodes order c.requires.order c.loop-place.place c.loop-place-test.true e r);
-      mixed = subst (λ l. IsMixed nodes l c.loop-place.held c.loop-place.base) (sym c.deref.ensures.value) c.loop-place.invariant.2;
+      turning = subst (λ l. IsTurningBase nodes l c.loop-place.base) (sym c.deref.ensures.value) c.loop-place.invariant.2;
     }
 
 pub loop-place-init : goal.loop-place-init
@@ -34,14 +34,17 @@ loop-place-init c =
     let none : c.in_ok-answers.answers.items ≡ [] = c.in_ok-answers.ensures.items in (
       subst (ChoosesAll nodes (take 0 c.args.order.now)) (sym none) (chosen-none nodes c.args.order.now),
       refl,
-      subst (λ l. IsMixed nodes l c.empty-held.result c.in_ok-base.base) (sym none) (mixed_start nodes c.empty-held.result c.in_ok-base.base c.in_ok-base.ensures.rules c.in_ok-base.ensures.profile c.empty-held.ensures),
+      subst (λ l. IsTurningBase nodes l c.in_ok-base.base) (sym none) c.in_ok-base.ensures,
     )
 
 pub choose-requires-clause-rules : goal.choose-requires-clause-rules
-choose-requires-clause-rules c e is apart = c.in_ok-turn_base.ensures.room e is
+choose-requires-clause-rules c e is apart = c.in_ok-turn.ensures.room e is
 
 pub choose-requires-clause-profile : goal.choose-requires-clause-profile
-choose-requires-clause-profile c = c.in_ok-turn_base.ensures.base.profile
+choose-requires-clause-profile c = c.in_ok-turn.ensures.base.profile
+
+pub choose-requires-clause-totals : goal.choose-requires-clause-totals
+choose-requires-clause-totals c = c.in_ok-turn.ensures.turning.has_totals
 
 pub choose-requires-clause-ready : goal.choose-requires-clause-ready
 choose-requires-clause-ready c = (
@@ -56,12 +59,12 @@ loop-place-preserved c =
     let order = c.args.order.now in
     let decision = slice_index order c.loop-place.place in (
       subst (ChoosesAll nodes (take (c.loop-place.place + 1) order)) (sym c.in_ok-push.ensures.items)
-          (chosen-push-all nodes order c.loop-place.place c.loop-place.answers.items c.turn_base.new.base c.in_ok-rows.rows.items c.requires.order c.loop-place-test.true c.loop-place.invariant.0
-          (subst (λ l. IsBase nodes (pure_profile nodes l) decision c.turn_base.new.base) c.deref.ensures.value c.in_ok-turn_base.ensures.base)
+          (chosen-push-all nodes order c.loop-place.place c.loop-place.answers.items c.turn.new.self.profile c.in_ok-rows.rows.items c.requires.order c.loop-place-test.true c.loop-place.invariant.0
+          (subst (λ l. IsBase nodes (pure_profile nodes l) decision c.turn.new.self.profile) c.deref.ensures.value c.in_ok-turn.ensures.base)
           c.in_ok-rows.ensures.rows),
       c.in_ok-rows.ensures.again ∙ c.loop-place.invariant.1,
-      subst (λ l. IsMixed nodes l c.turn_base.new.held c.turn_base.new.base) (sym c.in_ok-push.ensures.items)
-          (mixed_more nodes c.loop-place.answers.items c.turn_base.new.held c.turn_base.new.base (subst (λ l. IsMixed nodes l c.turn_base.new.held c.turn_base.new.base) c.deref.ensures.value c.in_ok-turn_base.ensures.mixed)
+      subst (λ l. IsTurningBase nodes l c.turn.new.self) (sym c.in_ok-push.ensures.items)
+          (turning_more nodes c.loop-place.answers.items c.turn.new.self (subst (λ l. IsTurningBase nodes l c.turn.new.self) c.deref.ensures.value c.in_ok-turn.ensures.turning)
           (record { decision = decision; rows = c.in_ok-rows.rows.items })),
     )
 

@@ -1,5 +1,4 @@
-use Rattle.std.proofs.Common.{subst, sym, ◌∙◌}
-use Rattle.rule_solver.specs.Totals.{HasTotals}
+use Rattle.std.proofs.Common.{◌∙◌}
 use Rattle.rule_solver.proofs.Missing.{totals_positive}
 use Rattle.std.specs.Int.{w128}
 use Rattle.std.proofs.lemmas.Int.{to_z-of_z}
@@ -9,12 +8,12 @@ pub fits_small-requires : goal.fits_small-requires
 fits_small-requires c =
     let d = c.args.diagram.now in
     let p = c.args.profile.now in
-    let totals = subst (HasTotals d.nodes p) (sym c.deref.ensures.value) c.in_ok-totals.ensures.totals in
+    let is = c.count-count.ensures.diagram in
     record {
-      diagram = c.in_ok-totals.ensures.diagram;
+      diagram = is;
       planned = (c.args.plan.now.plan, c.requires.planned);
-      some = totals_positive d.nodes p c.deref.result.now totals c.in_ok-totals.ensures.diagram.graph c.in_ok-totals.ensures.diagram.tables c.requires.profile;
-      fits = (p, totals, c.requires.fits);
+      some = totals_positive d.nodes p c.args.totals.now c.requires.totals is.graph is.tables c.requires.profile;
+      fits = (p, c.requires.totals, c.requires.fits);
     }
 
 pub run_at-requires-clause-within : goal.run_at-requires-clause-within
@@ -37,7 +36,7 @@ run_at-requires-clause-ready c = (c.requires.ready.0, c.requires.ready.1.small, 
 
 pub run_at-requires-clause-fits : goal.run_at-requires-clause-fits
 run_at-requires-clause-fits c =
-    (c.fits_small.ensures c.args.profile.now (subst (HasTotals c.args.diagram.now.nodes c.args.profile.now) (sym c.deref.ensures.value) c.in_ok-totals.ensures.totals)).0 c.if-fits_small.true
+    (c.fits_small.ensures c.args.profile.now c.requires.totals).0 c.if-fits_small.true
 
 pub returns-then-fits_small-clause-sum : goal.returns-then-fits_small-clause-sum
 returns-then-fits_small-clause-sum c =
@@ -68,10 +67,10 @@ run_at-requires-else-fits_small-clause-ready c = (c.requires.ready.0, c.requires
 pub run_at-requires-else-fits_small-clause-fits : goal.run_at-requires-else-fits_small-clause-fits
 run_at-requires-else-fits_small-clause-fits c = c.requires.fits
 
-pub returns-clause-sum : goal.returns-clause-sum
-returns-clause-sum c =
+pub returns-else-fits_small-clause-sum : goal.returns-else-fits_small-clause-sum
+returns-else-fits_small-clause-sum c =
     λ q inside at. to_z-of_z w128 c.run_at-else-fits_small.result (record { sfits = c.run_at-else-fits_small.type_inv }) ∙ c.run_at-else-fits_small.ensures.sum q inside at
 
-pub returns-clause-again : goal.returns-clause-again
-returns-clause-again c =
+pub returns-else-fits_small-clause-again : goal.returns-else-fits_small-clause-again
+returns-else-fits_small-clause-again c =
     λ i. record { small = c.args.spaces.now.small; wide = c.run_at-else-fits_small.ensures.again i; pairs = c.args.spaces.now.pairs; lists = tt; cells = c.args.spaces.now.cells; pair_cells = c.args.spaces.now.pair_cells }

@@ -9,11 +9,8 @@ use Rattle.rule_solver.proofs.GoalPlans.{members_small}
 use Rattle.rule_solver.proofs.TotalLemmas.{half_fits, tables_within, total_is, value_some}
 use Rattle.rule_solver.proofs.widths.fits_small.Goals as goal
 
-pub ruled_nodes-requires-clause-members : goal.ruled_nodes-requires-clause-members
-ruled_nodes-requires-clause-members c = members_small c.args.diagram.now.nodes c.requires.planned.0 c.args.plan.now c.requires.planned.1 c.requires.diagram.limits.nodes
-
-pub ruled_nodes-requires-clause-without : goal.ruled_nodes-requires-clause-without
-ruled_nodes-requires-clause-without c d e =
+pub ruled_nodes-requires : goal.ruled_nodes-requires
+ruled_nodes-requires c d e =
     let is : IsPlan c.args.diagram.now.nodes c.args.plan.now.plan = subst (IsPlan c.args.diagram.now.nodes) (sym c.requires.planned.1.made.plan) c.requires.planned.1.asked.is_plan in
     members_small c.args.diagram.now.nodes c.requires.planned.0 c.args.plan.now c.requires.planned.1 c.requires.diagram.limits.nodes d (inl (is.without d e))
 

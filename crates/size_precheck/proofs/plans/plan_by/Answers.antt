@@ -1,16 +1,26 @@
-use Rattle.std.proofs.Common.{◌∙◌, ℕ, ◌≤◌, ◌^◌, List, length, subst, sym, ap, arith}
+use Rattle.std.proofs.Common.{◌∙◌, ◌⊎◌, ℕ, ◌≤◌, ◌^◌, List, Contains, inl, inr, length, subst, sym, ap, arith}
 use Rattle.std.proofs.lemmas.Result.{IfOk-from_err}
 use Rattle.maid_model.specs.Views.{NodeView}
+use Rattle.node_sets.specs.Sets.{IsIn}
 use Rattle.plan_sums.specs.Plans.{PlanView}
 use Rattle.size_precheck.specs.Joints.{AreStateCounts}
 use Rattle.size_precheck.proofs.Counting.{counted_few, stopped_few}
 use Rattle.size_precheck.proofs.Orders.{order_of_greedy}
 use Rattle.size_precheck.proofs.Planning.{kept_counted, last_cells, last_work}
-use Rattle.size_precheck.proofs.Starting.{kept_known}
+use Rattle.size_precheck.proofs.Starting.{kept_known, step_known}
 use Rattle.size_precheck.proofs.plans.plan_by.Goals as goal
 
 pub set_of-kept-requires : goal.set_of-kept-requires
-set_of-kept-requires c v m = let a = kept_known c.args.diagram.now.nodes _ c.requires.asked.is_plan v m in let b = c.requires.diagram.limits.nodes in omega arith
+set_of-kept-requires c v m = let a = kept_known c.args.diagram.now.nodes _ c.requires.asked.is_plan v m in let b = c.count-count.ensures.diagram.limits.nodes in omega arith
+
+pub insert_all-requires : goal.insert_all-requires
+insert_all-requires c v m =
+    let nodes : List NodeView = c.args.diagram.now.nodes in
+    let plan : PlanView = record { keep = c.args.keep.now; without = c.args.without; utility = c.args.utility } in
+    let order = order_of_greedy nodes plan c.in_ok-run.run'.steps.items c.in_ok-run.ensures.run.greedy in
+    let known = step_known nodes plan v ((order.all v).0 (subst (λ (xs : List ℕ). Contains xs v) c.deref.ensures.value m)) in
+    let few = c.count-count.ensures.diagram.limits.nodes in
+    omega arith
 
 pub add-cells-requires-clause-b : goal.add-cells-requires-clause-b
 add-cells-requires-clause-b c = subst (λ (n : ℕ). n ≤ 10 ^ 18) (sym c.count_cells-last.ensures) (counted_few _ _)
@@ -28,7 +38,7 @@ pub add-work-requires-clause-b : goal.add-work-requires-clause-b
 add-work-requires-clause-b c = subst (λ (n : ℕ). n ≤ 10 ^ 18) (sym c.multiply.ensures) (stopped_few _)
 
 pub run_by-requires-clause-diagram : goal.run_by-requires-clause-diagram
-run_by-requires-clause-diagram c = c.requires.diagram
+run_by-requires-clause-diagram c = c.count-count.ensures.diagram
 
 pub run_by-requires-clause-planner : goal.run_by-requires-clause-planner
 run_by-requires-clause-planner c = c.requires.planner
@@ -55,3 +65,19 @@ returns c =
       cells = last_cells _ _ _ _ _ made.cells last c.add-cells.ensures;
       work = last_work _ _ _ _ _ _ _ _ made.work last made.live c.multiply.ensures c.add-work.ensures;
     }
+
+-- the members are the kept nodes and the steps
+pub invariant_of-result : goal.invariant_of-result
+invariant_of-result c v =
+    let keep = c.in_ok-from_slice.field-0.items in
+    let steps = c.in_ok-run.run'.steps.items in
+    let all = c.insert_all.ensures.all v in (
+      (λ m. elim (all.0 m) as (λ _. Contains keep v ⊎ Contains steps v) [
+        | inl k ↦ inl (subst (λ (xs : List ℕ). Contains xs v) (sym c.in_ok-from_slice.ensures.items) ((c.set_of-kept.ensures v).0 k))
+        | inr s ↦ inr (subst (λ (xs : List ℕ). Contains xs v) c.deref.ensures.value s)
+      ]),
+      (λ m. all.1 (elim m as (λ _. IsIn c.set_of-kept.result v ⊎ Contains c.deref.result.now v) [
+        | inl k ↦ inl ((c.set_of-kept.ensures v).1 (subst (λ (xs : List ℕ). Contains xs v) c.in_ok-from_slice.ensures.items k))
+        | inr s ↦ inr (subst (λ (xs : List ℕ). Contains xs v) (sym c.deref.ensures.value) s)
+      ])),
+    )

@@ -8,9 +8,6 @@ use Rattle.rule_solver.proofs.SettingLemmas.{goal_missing, goal_missing_small, g
 use Rattle.std.proofs.lemmas.Result.{on_ok_weaker}
 use Rattle.rule_solver.proofs.decision_sums.Setting.add_goal.Goals as goal
 
-pub members-requires : goal.members-requires
-members-requires c = members_small c.args.self.now.diagram.now.nodes (gain_plan c.args.self.now.diagram.now.nodes c.args.self.now.decision c.args.goal) c.args.plan.now c.requires.planned c.requires.setting.is_diagram.limits.nodes
-
 pub product_in-factor-requires-clause-some : goal.product_in-factor-requires-clause-some
 product_in-factor-requires-clause-some c =
     let s = c.requires.setting in

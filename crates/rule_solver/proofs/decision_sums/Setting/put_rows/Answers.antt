@@ -8,9 +8,6 @@ use Rattle.rule_solver.proofs.SettingLemmas.{rows_missing, rows_missing_small, r
 use Rattle.std.proofs.lemmas.Result.{on_ok_weaker}
 use Rattle.rule_solver.proofs.decision_sums.Setting.put_rows.Goals as goal
 
-pub members-requires : goal.members-requires
-members-requires c = members_small c.args.self.now.diagram.now.nodes (row_plan c.args.self.now.diagram.now.nodes c.args.self.now.decision) c.args.plan.now c.requires.planned c.requires.setting.is_diagram.limits.nodes
-
 pub product_in-factor-requires-clause-fits : goal.product_in-factor-requires-clause-fits
 product_in-factor-requires-clause-fits c =
     subst (λ n. n ≤ greatest_number)

@@ -3,7 +3,7 @@ use Rattle.std.proofs.lemmas.List.{length-map}
 use Rattle.maid_model.specs.Views.{AnswerView}
 use Rattle.maid_model.specs.Relevance.{ReliesOn}
 use Rattle.rule_solver.proofs.BaseTurns.{decided_at, mixed_base, mixed_room, turned_all, turned_more}
-use Rattle.rule_solver.proofs.bases.turn_base.Goals as goal
+use Rattle.rule_solver.proofs.bases.TurningBase.turn.Goals as goal
 
 pub returns-clause-base : goal.returns-clause-base
 returns-clause-base c =
@@ -11,10 +11,10 @@ returns-clause-base c =
     let answers = c.args.answers.now in
     let listed = map (λ (a : AnswerView). a.decision) answers in
     let long : length listed ≤ c.loop-place.place = omega (arith, length-map answers (λ (a : AnswerView). a.decision), c.loop-place-test.false) in
-    mixed_base nodes answers c.loop-place.held c.loop-place.base c.loop-place.invariant.mixed c.args.decision c.requires.relied (turned_all nodes c.args.decision listed c.loop-place.place c.loop-place.held long c.loop-place.invariant.turned)
+    mixed_base nodes answers c.loop-place.self.held c.loop-place.self.profile c.loop-place.invariant.turning.mixed c.args.decision c.requires.relied (turned_all nodes c.args.decision listed c.loop-place.place c.loop-place.self.held long c.loop-place.invariant.turned)
 
 pub returns-clause-room : goal.returns-clause-room
-returns-clause-room c = mixed_room c.args.diagram.now.nodes c.args.answers.now c.loop-place.held c.loop-place.base c.loop-place.invariant.mixed
+returns-clause-room c = mixed_room c.args.diagram.now.nodes c.args.answers.now c.loop-place.self.held c.loop-place.self.profile c.loop-place.invariant.turning.mixed
 
 pub loop-place-preserved : goal.loop-place-preserved
 loop-place-preserved c =
@@ -28,9 +28,9 @@ loop-place-preserved c =
     let within : place < length answers = omega (arith, c.loop-place-test.true) in
     let there : slice_index listed place ≡ e = decided_at answers place a within (sym c.index-answers-place.is) ∙ sym (ap (λ (x : AnswerView). x.decision) c.answer.view_is) in
     record {
-      mixed = c.in_ok-turn_one.ensures.mixed;
+      turning = c.in_ok-turn_one.ensures.turning;
       turned =
-          turned_more nodes d listed place c.loop-place.held c.turn_one.new.held c.relies-relied.result c.loop-place.invariant.turned c.in_ok-turn_one.ensures.turns (
+          turned_more nodes d listed place c.loop-place.self.held c.turn_one.new.self.held c.relies-relied.result c.loop-place.invariant.turned c.in_ok-turn_one.ensures.turns (
             (λ t. subst (ReliesOn nodes d) (sym there) ((c.requires.relevance.pairs d e).0 (c.relies-relied.ensures.0 t))),
             (λ r. c.relies-relied.ensures.1 ((c.requires.relevance.pairs d e).1 (subst (ReliesOn nodes d) there r))),
           );

@@ -1,4 +1,4 @@
-use Rattle.size_precheck.proofs.decisions.decision_by.Goals as goal
+use Rattle.size_precheck.proofs.decisions.plan_decision_by.Goals as goal
 
 pub returns : goal.returns
 returns c = record {
