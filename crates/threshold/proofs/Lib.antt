@@ -1,7 +1,7 @@
 pub mod Narrowing
 pub mod Alike
 pub mod Plans
-pub mod AnswerPlans
+pub mod PlanCells
 pub mod Tables
 pub mod Moves
 pub mod Ending

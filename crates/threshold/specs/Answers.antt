@@ -1,6 +1,7 @@
 -- The fractions at which the answers hold. Only private functions cite it.
 use Rattle.std.specs.Prelude.{◌≡◌, ◌↔◌, ◌⊎◌, ℕ, ◌<◌, ◌≤◌, true, is_some, List, length, slice_index_or, pos, ◌<ℤ◌}
 use Rattle.std.specs.List.{list_all}
+use Rattle.maid_model.specs.declared.limits.TheConstants.{MOST_PLAN_CELLS}
 use Rattle.maid_model.specs.Answers.{IsAnswer, answered}
 use Rattle.maid_model.specs.Diagrams.{IsDiagram}
 use Rattle.maid_model.specs.Nodes.{IsDecision}
@@ -8,9 +9,9 @@ use Rattle.maid_model.specs.Views.{NodeView, DiagramView, RuleView, AnswerView, 
 use Rattle.reach_laws.specs.Threshold.{HoldsAt, IsMoved, state_weight}
 use Rattle.rule_solver.specs.declared.spaces.Workspaces.{Workspaces}
 use Rattle.rule_solver.specs.Faults.{IsSmallEnough}
-use Rattle.rule_solver.specs.Rooms.{AreReadyForDecision, AreReadyForRun}
+use Rattle.rule_solver.specs.Rooms.{AreReadyForDecision, HasRoomForDecision}
 use Rattle.size_precheck.specs.declared.decisions.DecisionPlans.{DecisionPlans}
-use Rattle.size_precheck.specs.Decisions.{AreDecisionPlans, ArePlans}
+use Rattle.size_precheck.specs.Decisions.{AreDecisionPlans}
 use Rattle.threshold.specs.declared.answers.Question.{Question}
 use Rattle.threshold.specs.declared.held.Held.{Held}
 use Rattle.threshold.specs.declared.weights.Place.{Place}
@@ -69,18 +70,15 @@ abbrev pub ArePlansOfAnswer : Question → AnswerView → DecisionPlans → Type
 ArePlansOfAnswer q answer plans =
     AreDecisionPlans q.diagram.now.nodes answer.decision plans
 
--- these are the plans of the decisions in the order of solving
-abbrev pub ArePlansInOrder : Question → List DecisionPlans → Type 0
-ArePlansInOrder q plans = ArePlans q.diagram.now.nodes q.solved.now.order plans
-
 -- the workspaces are ready, and have room for those plans
 abbrev pub AreReadyForAnswer : Question → AnswerView → Workspaces → Type 0
 AreReadyForAnswer q answer spaces =
     AreReadyForDecision q.diagram.now.nodes answer.decision spaces
 
--- and for all plans of a run
-abbrev pub AreReadyForAll : Question → Workspaces → Type 0
-AreReadyForAll q spaces = AreReadyForRun q.diagram.now.nodes spaces
+-- no plan of a decision has more cells than the limit
+abbrev pub KeepsPlanCells : Question → Type 0
+KeepsPlanCells q = (d : ℕ) → IsDecision q.diagram.now.nodes d
+    → HasRoomForDecision q.diagram.now.nodes d MOST_PLAN_CELLS
 
 -- the answer holds at the fraction
 abbrev pub HoldsAnswer : Question → AnswerView → ℕ → ℕ → Type 0

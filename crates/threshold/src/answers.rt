@@ -3,9 +3,11 @@
 ghost use Rattle.std.specs.Prelude.{◌≡◌, ◌↔◌, All, IfOk, IsTrue, OnOk};
 ghost use Rattle.maid_model.specs.Answers.{answered};
 ghost use Rattle.relevance_graph.specs.Relevant.{IsRelevance};
-ghost use Rattle.threshold.specs.Answers.{ArePlansInOrder, ArePlansOfAnswer, AreReadyForAll};
-ghost use Rattle.threshold.specs.Answers.{AreReadyForAnswer, HoldsAllAnswers, HoldsAnswer};
-ghost use Rattle.threshold.specs.Answers.{IsAnswerOf, IsQuestion, IsHeld, IsThresholdSetting, AnswerStands};
+ghost use Rattle.rule_solver.specs.Rooms.{AreLeft};
+ghost use Rattle.size_precheck.specs.Families.{IsPlanner};
+ghost use Rattle.threshold.specs.Answers.{AnswerStands, ArePlansOfAnswer, AreReadyForAnswer};
+ghost use Rattle.threshold.specs.Answers.{HoldsAllAnswers, HoldsAnswer, IsAnswerOf, IsHeld};
+ghost use Rattle.threshold.specs.Answers.{IsQuestion, IsThresholdSetting, KeepsPlanCells};
 ghost use Rattle.threshold.specs.Held.{IsRange, Narrows};
 
 use crate::control::{all_reached, find_controlled, is_free};
@@ -14,10 +16,8 @@ use crate::held::{Held, all_fractions, narrow_rows};
 use crate::weights::{Place, weight_there};
 use maid_model::{Answer, Diagram, Solved};
 use relevance_graph::{Relevance, find_relevance};
-use rule_solver::{
-    Workspaces, base_of, counted_plans_have_room, orders_list_decisions, row_gains_by,
-};
-use size_precheck::{DecisionPlans, greedy_orders, kept_plans_stand, plan_run};
+use rule_solver::{Workspaces, base_of, measured_plans_have_room, row_gains_by, spaces_for};
+use size_precheck::{DecisionPlans, Planner, greedy_orders, kept_plans_stand, plan_decision_by};
 use std::alloc::{AllocError, Global};
 
 /// A diagram and its answer, the place whose probability moves, the diagrams in which it is 0 and 1,
@@ -97,76 +97,105 @@ impl<'a> Question<'a> {
         ))
     }
 
-    /// The same, without a sum where the answer surely holds at all probabilities: then the interval stays as it is.
+    /// The same, by plans of the decision that are made here, in workspaces that another decision
+    /// has left, where they have the room. It leaves its own.
+    fn narrow_planned(
+        &self,
+        alloc: Global,
+        relevance: &Relevance,
+        planner: &Planner,
+        held: Held,
+        answer: &Answer,
+        left: &mut Option<Workspaces>,
+    ) -> Result<Held, AllocError>
+        requires setting { IsQuestion self.now }
+        requires relevance { IsRelevance self.now.diagram.now.nodes relevance.now }
+        requires planner { IsPlanner self.now.diagram.now.nodes planner.now }
+        requires room { KeepsPlanCells self.now }
+        requires answer { IsAnswerOf self.now.solved.now answer.now }
+        requires left { AreLeft left.old }
+        requires range { IsRange held }
+        ensures held { IfOk result (Narrows (HoldsAnswer self.now answer.now) held) }
+        ensures left { AreLeft left.new }
+    {
+        let (diagram, decision) = (self.diagram, answer.decision);
+        let plans = plan_decision_by(alloc, diagram, planner, decision)?;
+        let mut spaces = spaces_for(alloc, diagram, decision, &plans, left.take())?;
+        let held = self.narrow_by_gains(alloc, relevance, held, answer, &plans, &mut spaces)?;
+        *left = Some(spaces);
+        Ok(held)
+    }
+
+    /// The same, without a plan or a sum where the answer surely holds at all fractions: then the
+    /// interval stays as it is.
     fn narrow(
         &self,
         alloc: Global,
         relevance: &Relevance,
+        planner: &Planner,
         held: Held,
         answer: &Answer,
-        plans: &DecisionPlans,
-        spaces: &mut Workspaces,
+        left: &mut Option<Workspaces>,
     ) -> Result<Held, AllocError>
         requires setting { IsQuestion self.now }
         requires relevance { IsRelevance self.now.diagram.now.nodes relevance.now }
+        requires planner { IsPlanner self.now.diagram.now.nodes planner.now }
+        requires room { KeepsPlanCells self.now }
         requires answer { IsAnswerOf self.now.solved.now answer.now }
-        requires planned { ArePlansOfAnswer self.now answer.now plans.now }
-        requires ready { AreReadyForAnswer self.now answer.now spaces.old }
+        requires left { AreLeft left.old }
         requires range { IsRange held }
         ensures held { IfOk result (Narrows (HoldsAnswer self.now answer.now) held) }
-        ensures again { OnOk result (spaces.new ≡ spaces.old) }
+        ensures left { AreLeft left.new }
     {
         if self.stands(answer) {
             return Ok(held);
         }
-        self.narrow_by_gains(alloc, relevance, held, answer, plans, spaces)
+        self.narrow_planned(alloc, relevance, planner, held, answer, left)
     }
 
-    /// The fractions from 0 to 1 at which all answers hold, by the plans of their decisions.
+    /// The fractions from 0 to 1 at which all answers hold. A decision whose answer may not hold at
+    /// all of them is planned when its turn comes, and leaves its workspaces to the next.
     fn narrow_all(
         &self,
         alloc: Global,
         relevance: &Relevance,
-        plans: &[DecisionPlans],
-        spaces: &mut Workspaces,
+        planner: &Planner,
     ) -> Result<Held, AllocError>
         requires setting { IsQuestion self.now }
         requires relevance { IsRelevance self.now.diagram.now.nodes relevance.now }
-        requires planned { ArePlansInOrder self.now plans.now }
-        requires ready { AreReadyForAll self.now spaces.old }
+        requires planner { IsPlanner self.now.diagram.now.nodes planner.now }
+        requires room { KeepsPlanCells self.now }
         ensures range { IfOk result IsRange }
         ensures held { IfOk result (HoldsAllAnswers self.now) }
     {
         let solved = self.solved;
         let mut held = all_fractions();
-        let mut place = 0;
+        let mut left = None;
         for answer in &solved.answers {
-            held = self.narrow(alloc, relevance, held, answer, &plans[place], spaces)?;
-            place += 1;
+            held = self.narrow(alloc, relevance, planner, held, answer, &mut left)?;
         }
         Ok(held)
     }
 
     /// The fractions from 0 to 1 at which all answers hold, by their decisions' gains. It finds the
-    /// relevance graph, makes the plans of the run, reserves the workspaces, and goes over the
-    /// decisions in the order of solving.
+    /// relevance graph, makes what all plans share, and goes over the decisions in the order of
+    /// solving. It plans only those whose answer may not hold at all fractions.
     fn hold_by_gains(&self, alloc: Global) -> Result<Held, AllocError>
         requires { IsQuestion self.now }
         ensures range { IfOk result IsRange }
         ensures held { IfOk result (HoldsAllAnswers self.now) }
     {
-        orders_list_decisions();
-        counted_plans_have_room();
-        let (diagram, solved) = (self.diagram, self.solved);
-        let relevance = find_relevance(alloc, diagram)?;
-        let run = plan_run(alloc, diagram, &solved.order)?;
-        let mut spaces = Workspaces::reserve(alloc, run.size.cells as usize)?;
-        self.narrow_all(alloc, &relevance, &run.decisions, &mut spaces)
+        // Each plan has a size, and those of a small enough run have room.
+        greedy_orders();
+        measured_plans_have_room();
+        let relevance = find_relevance(alloc, self.diagram)?;
+        let planner = Planner::new(alloc, self.diagram)?;
+        self.narrow_all(alloc, &relevance, &planner)
     }
 }
 
-/// The fractions from 0 to 1 at which all answers hold. The gains are summed where some answer may
-/// not hold at all of them.
+/// The fractions from 0 to 1 at which all answers hold. Where each surely holds at all of them,
+/// nothing is planned and no gain is summed.
 pub(crate) fn hold_answers(
     alloc: Global,
     diagram: &Diagram,

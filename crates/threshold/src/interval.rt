@@ -52,7 +52,8 @@ fn fraction(num: u128, den: u128) -> Ratio
 /// place, unless one of its rows may become reached. If all do so, that is all. Else in both diagrams
 /// the gains of each other decision are summed, by elimination along the plans of `solve`, and two
 /// fractions are compared for each row and state that gains more than the choice in one of the two.
-/// The plans are made once for both diagrams, and the workspaces are reserved once.
+/// Only such a decision is planned, once for both diagrams, and it leaves its workspaces to the
+/// next.
 ///
 /// # Errors
 ///

@@ -1,5 +1,4 @@
 use Rattle.threshold.proofs.Standing.{narrows_by_nothing}
-use Rattle.std.proofs.Common.{refl}
 use Rattle.threshold.proofs.answers.Question.narrow.Goals as goal
 
 pub returns-then-stands-clause-held : goal.returns-then-stands-clause-held
@@ -11,29 +10,32 @@ stands-requires-clause-setting c = c.requires.setting
 pub stands-requires-clause-answer : goal.stands-requires-clause-answer
 stands-requires-clause-answer c = c.requires.answer
 
-pub returns-then-stands-clause-again : goal.returns-then-stands-clause-again
-returns-then-stands-clause-again c = refl
+pub returns-then-stands-clause-left : goal.returns-then-stands-clause-left
+returns-then-stands-clause-left c = c.requires.left
 
-pub narrow_by_gains-requires-clause-setting : goal.narrow_by_gains-requires-clause-setting
-narrow_by_gains-requires-clause-setting c = c.requires.setting
+pub narrow_planned-requires-clause-setting : goal.narrow_planned-requires-clause-setting
+narrow_planned-requires-clause-setting c = c.requires.setting
 
-pub narrow_by_gains-requires-clause-relevance : goal.narrow_by_gains-requires-clause-relevance
-narrow_by_gains-requires-clause-relevance c = c.requires.relevance
+pub narrow_planned-requires-clause-relevance : goal.narrow_planned-requires-clause-relevance
+narrow_planned-requires-clause-relevance c = c.requires.relevance
 
-pub narrow_by_gains-requires-clause-answer : goal.narrow_by_gains-requires-clause-answer
-narrow_by_gains-requires-clause-answer c = c.requires.answer
+pub narrow_planned-requires-clause-planner : goal.narrow_planned-requires-clause-planner
+narrow_planned-requires-clause-planner c = c.requires.planner
 
-pub narrow_by_gains-requires-clause-planned : goal.narrow_by_gains-requires-clause-planned
-narrow_by_gains-requires-clause-planned c = c.requires.planned
+pub narrow_planned-requires-clause-room : goal.narrow_planned-requires-clause-room
+narrow_planned-requires-clause-room c = c.requires.room
 
-pub narrow_by_gains-requires-clause-ready : goal.narrow_by_gains-requires-clause-ready
-narrow_by_gains-requires-clause-ready c = c.requires.ready
+pub narrow_planned-requires-clause-answer : goal.narrow_planned-requires-clause-answer
+narrow_planned-requires-clause-answer c = c.requires.answer
 
-pub narrow_by_gains-requires-clause-range : goal.narrow_by_gains-requires-clause-range
-narrow_by_gains-requires-clause-range c = c.requires.range
+pub narrow_planned-requires-clause-left : goal.narrow_planned-requires-clause-left
+narrow_planned-requires-clause-left c = c.requires.left
+
+pub narrow_planned-requires-clause-range : goal.narrow_planned-requires-clause-range
+narrow_planned-requires-clause-range c = c.requires.range
 
 pub returns-clause-held : goal.returns-clause-held
-returns-clause-held c = c.narrow_by_gains.ensures.held
+returns-clause-held c = c.narrow_planned.ensures.held
 
-pub returns-clause-again : goal.returns-clause-again
-returns-clause-again c = c.narrow_by_gains.ensures.again
+pub returns-clause-left : goal.returns-clause-left
+returns-clause-left c = c.narrow_planned.ensures.left
