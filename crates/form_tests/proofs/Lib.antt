@@ -1,2 +1,1 @@
 mod FittingReports
-pub mod PlanSamples

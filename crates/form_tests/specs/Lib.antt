@@ -3,6 +3,5 @@ pub mod Conditioning
 pub mod Controlling
 pub mod Informing
 pub mod Moving
-pub mod Planning
 pub mod Searching
 pub mod Updating

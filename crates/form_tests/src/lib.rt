@@ -1,4 +1,4 @@
-//! The tests of `size_precheck`, `tree_checker`, `pure_search`, `rule_solver`, `policy_update`, `info_value`,
+//! The tests of `tree_checker`, `pure_search`, `rule_solver`, `policy_update`, `info_value`,
 //! `control_incentive`, `evidence` and `threshold`: they stand apart since a crate that has tests is proved twice, with
 //! them and without.
 #![tactic(auto)]
@@ -13,8 +13,6 @@ mod controlling;
 mod informing;
 #[cfg(test)]
 mod moving;
-#[cfg(test)]
-mod planning;
 #[cfg(test)]
 mod samples;
 #[cfg(test)]

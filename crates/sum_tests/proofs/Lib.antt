@@ -1,2 +1,3 @@
+mod PlanSamples
 pub mod Samples
 pub mod SmallTables

@@ -1,11 +1,13 @@
 //! Sizes of small plans, counted by hand.
 
 ghost use Rattle.std.specs.Prelude.{◌≡◌, IfOk};
-ghost use Rattle.form_tests.specs.Planning.{sighted_diagram, square_diagram, star_diagram, twice_paid};
+ghost use Rattle.sum_tests.specs.Planning.{blind_diagram, seeing_diagram, sighted_diagram, square_diagram, star_diagram, twice_paid};
 
 use maid_model::Diagram;
 use sample_diagrams::{chance, decision, sample_diagram, utility};
-use size_precheck::{Plan, Size, make_plan, measure};
+use size_precheck::{
+    Plan, Planner, Size, keep_edited, make_plan, measure, plan_by, plan_run_by, plan_worths,
+};
 use std::alloc::{AllocError, Global};
 use std::test::Fail;
 
@@ -46,6 +48,32 @@ fn sighted(alloc: Global) -> Result<Diagram, AllocError>
         chance(2, &[], &[1, 1]),
         decision(0, 2, &[0]),
         utility(0, &[0, 1], &[1, 1, 1, 1]),
+    ];
+    sample_diagram(alloc, &nodes, 1, 0)
+}
+
+/// A chance node that no decision sees, a decision, a utility over both, and one over the chance node alone.
+fn blind(alloc: Global) -> Result<Diagram, AllocError>
+    ensures { IfOk result (λ d. d ≡ blind_diagram) }
+{
+    let nodes = [
+        chance(2, &[], &[1, 1]),
+        decision(0, 2, &[]),
+        utility(0, &[0, 1], &[1, 1, 1, 1]),
+        utility(0, &[0], &[1, 1]),
+    ];
+    sample_diagram(alloc, &nodes, 1, 0)
+}
+
+/// The same where the decision sees the chance node.
+fn seeing(alloc: Global) -> Result<Diagram, AllocError>
+    ensures { IfOk result (λ d. d ≡ seeing_diagram) }
+{
+    let nodes = [
+        chance(2, &[], &[1, 1]),
+        decision(0, 2, &[0]),
+        utility(0, &[0, 1], &[1, 1, 1, 1]),
+        utility(0, &[0], &[1, 1]),
     ];
     sample_diagram(alloc, &nodes, 1, 0)
 }
@@ -95,6 +123,63 @@ fn plans_of_a_square(rt: HostRuntime) -> Result<(), Fail> {
     let alloc = rt.alloc();
     assert!(rt; plans_worth(alloc)?);
     assert!(rt; plans_corners(alloc)?);
+    Ok(())
+}
+
+/// Whether the square's plans are as counted where what they share is made once.
+fn plans_by_one(alloc: Global) -> Result<bool, AllocError> {
+    let diagram = square(alloc)?;
+    let planner = Planner::new(alloc, &diagram)?;
+    let worth = plan_by(alloc, &diagram, &planner, &[], None, Some(4))?;
+    let corners = plan_by(alloc, &diagram, &planner, &[3, 2], None, None)?;
+    Ok(worth.steps() == [0, 1, 2, 3].as_slice() && corners.steps() == [0, 1].as_slice())
+}
+
+/// The size of the run of the decision that sees, by what its plans share.
+fn run_by_one(alloc: Global) -> Result<Size, AllocError> {
+    let diagram = sighted(alloc)?;
+    let planner = Planner::new(alloc, &diagram)?;
+    Ok(plan_run_by(alloc, &diagram, &planner, &[1])?.size)
+}
+
+#[test]
+fn plans_that_share(rt: HostRuntime) -> Result<(), Fail> {
+    let alloc = rt.alloc();
+    let size = Size {
+        cells: 14,
+        work: 25,
+    };
+    assert!(rt; plans_by_one(alloc)?);
+    assert_eq!(rt; run_by_one(alloc)?, size);
+    Ok(())
+}
+
+/// Whether the plan of this utility's worth eliminates those nodes, and is of this size.
+fn is_worth(plan: Option<&Plan>, utility: usize, steps: &[usize], size: Size) -> bool {
+    match plan {
+        Some(plan) => plan.utility() == Some(utility) && is_plan(plan, &[], steps, size),
+        None => false,
+    }
+}
+
+/// Whether the worths are planned as counted where the decision sees the chance node, by the plans where it doesn't.
+fn keeps_worths(alloc: Global) -> Result<bool, AllocError> {
+    let before = plan_worths(alloc, &blind(alloc)?)?;
+    let kept = keep_edited(alloc, &seeing(alloc)?, &before, 1)?;
+    let both = Size {
+        cells: 14,
+        work: 15,
+    };
+    let alone = Size { cells: 6, work: 5 };
+    let plans = kept.worths.as_slice();
+    Ok(is_worth(plans.first(), 2, &[0, 1], both) && is_worth(plans.last(), 3, &[0], alone))
+}
+
+// The first utility's plan has the decision's new rule, of four cells in place of two; the second is that of before: two
+// tables of two cells, one that the node makes, and the last cell.
+#[test]
+fn worths_beside_an_edit(rt: HostRuntime) -> Result<(), Fail> {
+    assert!(rt; keeps_worths(rt.alloc())?);
     Ok(())
 }
 

@@ -1,10 +1,10 @@
 -- The list that the loop made is a diagram by its tests.
 use Rattle.std.proofs.Common.{◌≡◌, ◌∙◌, ℕ, List, ◌∷◌, [], refl, sym, ap, subst, arith}
 use Rattle.std.specs.Prelude.{IfOk, replicate}
-use Rattle.form_tests.specs.Planning.{star_diagram}
+use Rattle.sum_tests.specs.Planning.{star_diagram}
 use Rattle.maid_model.specs.Views.{NodeView, diagram_of}
 use Rattle.sample_diagrams.specs.Nodes.{PassesTests, decision_node}
-use Rattle.form_tests.proofs.planning.star.Goals as goal
+use Rattle.sum_tests.proofs.planning.star.Goals as goal
 
 tested : PassesTests star_diagram.nodes 1 0
 tested = refl

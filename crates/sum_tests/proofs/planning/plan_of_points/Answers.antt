@@ -1,9 +1,9 @@
 use Rattle.std.proofs.Common.{◌∷◌, [], refl, sym, subst, None}
 use Rattle.maid_model.specs.Views.{DiagramView}
-use Rattle.form_tests.specs.Planning.{star_diagram}
+use Rattle.sum_tests.specs.Planning.{star_diagram}
 use Rattle.size_precheck.specs.Sizes.{CanBePlanned}
-use Rattle.form_tests.proofs.PlanSamples.{planned}
-use Rattle.form_tests.proofs.planning.plan_of_points.Goals as goal
+use Rattle.sum_tests.proofs.PlanSamples.{planned}
+use Rattle.sum_tests.proofs.planning.plan_of_points.Goals as goal
 
 pub make_plan-requires : goal.make_plan-requires
 make_plan-requires c =

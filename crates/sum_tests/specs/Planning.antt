@@ -39,3 +39,21 @@ sighted_diagram = diagram_of (
 -- a decision of 16 states that 15 others see
 abbrev pub star_diagram : DiagramView
 star_diagram = diagram_of (decision_node 0 16 [] ∷ replicate 15 (decision_node 0 16 (0 ∷ []))) 1 0
+
+-- a chance node that no decision sees, a decision, and utilities over both and over the chance node alone
+abbrev pub blind_diagram : DiagramView
+blind_diagram = diagram_of (
+    chance_node 2 [] (pos 1 ∷ pos 1 ∷ [])
+    ∷ decision_node 0 2 []
+    ∷ utility_node 0 (0 ∷ 1 ∷ []) ones
+    ∷ utility_node 0 (0 ∷ []) (pos 1 ∷ pos 1 ∷ [])
+    ∷ []) 1 0
+
+-- the same where the decision sees the chance node
+abbrev pub seeing_diagram : DiagramView
+seeing_diagram = diagram_of (
+    chance_node 2 [] (pos 1 ∷ pos 1 ∷ [])
+    ∷ decision_node 0 2 (0 ∷ [])
+    ∷ utility_node 0 (0 ∷ 1 ∷ []) ones
+    ∷ utility_node 0 (0 ∷ []) (pos 1 ∷ pos 1 ∷ [])
+    ∷ []) 1 0
