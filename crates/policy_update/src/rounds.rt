@@ -50,7 +50,8 @@ fn improvement(
         totals: &kept.totals,
         scope: kept.scopes[place],
     };
-    let gains = setting.row_gains(alloc, &kept.plans[place].goals, spaces)?;
+    let plans = &kept.plans[place];
+    let gains = setting.row_gains(alloc, &plans.goals, &plans.joint_order, spaces)?;
     if keep_choices(&gains, states, &answer.rows) {
         return Ok(None);
     }

@@ -11,7 +11,7 @@ use Rattle.size_precheck.specs.Sizes.{SizedPlan}
 use Rattle.rule_solver.specs.Together.{IsListed, IsStepOf, ListsMore}
 
 -- ---- members
-one_of : {X : Type 0} (x v : X) → Contains (x ∷ []) v → v ≡ x
+pub one_of : {X : Type 0} (x v : X) → Contains (x ∷ []) v → v ≡ x
 one_of x v (zero, l, e) = sym e
 one_of x v (suc k, l, e) = absurd (omega arith)
 
@@ -76,12 +76,12 @@ pub record ListsSteps (plans : List SizedPlan) (i : ℕ) (set : NodeSet) (list :
   pub all : (v : ℕ) → IsStepOf (take i plans) v → Contains list v
   pub some : (v : ℕ) → Contains list v → IsStepOf plans v
 
--- before the first plan, the steps of one of them
-pub first_steps : (plans : List SizedPlan) (plan : SizedPlan) (set : NodeSet) (list : List ℕ) → Contains plans plan → ListsMore plan.steps [] list set → ListsSteps plans 0 set list
-first_steps plans plan set list here so = record {
+-- before the first plan, some of their steps
+pub first_steps : (plans : List SizedPlan) (first : List ℕ) (set : NodeSet) (list : List ℕ) → ((v : ℕ) → Contains first v → IsStepOf plans v) → ListsMore first [] list set → ListsSteps plans 0 set list
+first_steps plans first set list are so = record {
   listed = so.listed;
   all = λ v s. absurd (none_in s.0 s.1);
-  some = λ v c. (plan, here, elim ((so.all v).0 c) as (λ _. Contains plan.steps v) [ inl b ↦ absurd (none_in v b) | inr n ↦ n ]);
+  some = λ v c. elim ((so.all v).0 c) as (λ _. IsStepOf plans v) [ inl b ↦ absurd (none_in v b) | inr n ↦ are v n ];
 }
 
 -- the next plan's

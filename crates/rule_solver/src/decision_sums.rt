@@ -208,13 +208,14 @@ impl<'a> Setting<'a> {
         }
     }
 
-    /// Adds what the decision's goals give to the gains: of several goals together, as far as that serves, and then of
-    /// one after the other.
+    /// Adds what the decision's goals give to the gains: of several goals together, in this order as far as that serves,
+    /// and then of one after the other.
     fn add_goals(
         &self,
         alloc: Global,
         goals: &[usize],
         plans: &[Plan],
+        order: &[usize],
         spaces: &mut Workspaces,
         gains: &mut [i128],
     ) -> Result<(), AllocError>
@@ -230,7 +231,7 @@ impl<'a> Setting<'a> {
         plans_keep_scopes();
         let cells = spaces.pair_cells;
         let (pairs, lists) = (&mut spaces.pairs, &mut spaces.lists);
-        let added = add_together(alloc, self, goals, plans, cells, pairs, lists, gains)?;
+        let added = add_together(alloc, self, goals, plans, order, cells, pairs, lists, gains)?;
         for place in added..goals.len() {
             let plan = &plans[place];
             let (small, wide) = (&mut spaces.small, &mut spaces.wide);
@@ -245,6 +246,7 @@ impl<'a> Setting<'a> {
         &self,
         alloc: Global,
         plans: &[Plan],
+        order: &[usize],
         spaces: &mut Workspaces,
     ) -> Result<Vec<i128>, AllocError>
         requires setting { HoldsSetting self.now }
@@ -256,12 +258,13 @@ impl<'a> Setting<'a> {
         let rows = self.diagram.rows(self.decision);
         let mut gains = vec![in alloc; 0; rows * self.diagram.states(self.decision)]?;
         let goals = list_goals(alloc, plans)?;
-        self.add_goals(alloc, &goals, plans, spaces, &mut gains)?;
+        self.add_goals(alloc, &goals, plans, order, spaces, &mut gains)?;
         Ok(gains)
     }
 
     /// The gains of which `row_sums_by` tells, without the masses: it runs the plans of the goals alone, in workspaces with
-    /// room for the largest of them, which are left as they were found.
+    /// room for the largest of them, which are left as they were found. Several goals are summed together in this order of
+    /// nodes, such as a decision's plans have; what the gains are does not depend on it.
     ///
     /// # Errors
     ///
@@ -270,6 +273,7 @@ impl<'a> Setting<'a> {
         &self,
         alloc: Global,
         plans: &[Plan],
+        order: &[usize],
         spaces: &mut Workspaces,
     ) -> Result<Vec<i128>, AllocError>
         requires setting { HoldsSetting self.now }
@@ -279,7 +283,7 @@ impl<'a> Setting<'a> {
         ensures again { OnOk result (spaces.new ≡ spaces.old) }
     {
         plans_sum_scopes();
-        self.gains(alloc, plans, spaces)
+        self.gains(alloc, plans, order, spaces)
     }
 
     /// The gains and the masses.
@@ -297,7 +301,7 @@ impl<'a> Setting<'a> {
         ensures again { OnOk result (spaces.new ≡ spaces.old) }
     {
         plans_sum_scopes();
-        let gains = self.gains(alloc, &plans.goals, spaces)?;
+        let gains = self.gains(alloc, &plans.goals, &plans.joint_order, spaces)?;
         let (small, wide) = (&mut spaces.small, &mut spaces.wide);
         let masses = self.masses(alloc, &plans.rows, small, wide, &mut spaces.lists)?;
         Ok(RowSums { gains, masses })
@@ -374,7 +378,7 @@ pub fn row_gains_by(
         totals: &totals,
         scope: decision_scope(diagram, decision),
     };
-    setting.row_gains(alloc, &plans.goals, spaces)
+    setting.row_gains(alloc, &plans.goals, &plans.joint_order, spaces)
 }
 
 /// Workspaces with room for the plans of a decision: those that another run has left, where they have it, and else new

@@ -2,10 +2,10 @@
 //!
 //! The plans of a decision's goals share nearly all of their nodes, and each plan eliminates these anew. Here one
 //! elimination sums several goals, over pairs of a mass and a gain: the pair of a utility's value has the mass 1, so the
-//! gain of a product is the product of the weights times the sum of the values. Where that has no room, takes too much
-//! work or might not fit, each goal's own plan is run instead.
+//! gain of a product is the product of the weights times the sum of the values. Where that has no room, takes longer or
+//! might not fit, each goal's own plan is run instead.
 
-ghost use Rattle.std.specs.Prelude.{◌≡◌, ◌↔◌, ◌+◌, ◌*◌, ◌<◌, ◌≤◌, ℕ, [], Contains, IfOk, IfSome, IsTrue, OnOk, drop, length, map, sum_by, take};
+ghost use Rattle.std.specs.Prelude.{◌≡◌, ◌↔◌, ◌+◌, ◌*◌, ◌<◌, ◌≤◌, ℕ, [], Contains, IfOk, OnOk, drop, length, map, take};
 ghost use Rattle.maid_model.specs.Graph.{AllDifferent};
 ghost use Rattle.node_sets.specs.declared.sets.TheConstants.{MOST_NODES};
 ghost use Rattle.joint_sums.specs.Joint.{AreGoals};
@@ -21,7 +21,7 @@ use cell_rings::Both;
 use eliminate::{Limits, RunLists, first_numbers_fit, release, sum_tables};
 use factor_core::Workspace;
 use maid_model::Diagram;
-use node_sets::NodeSet;
+use node_sets::{MOST_NODES, NodeSet};
 use scope_sums::plans_keep_scopes;
 use size_precheck::Plan;
 use std::alloc::{AllocError, Global};
@@ -71,31 +71,35 @@ fn list_new(nodes: &[usize], listed: &mut NodeSet, list: &mut Vec<usize>) -> Res
     Ok(())
 }
 
-/// The place of the first plan with most steps.
-fn longest(plans: &[Plan]) -> usize
-    requires { 0 < length plans.now }
-    ensures { result < length plans.now }
+/// Those of the order that one of the plans eliminates.
+fn ordered_steps(alloc: Global, plans: &[Plan], order: &[usize]) -> Result<Vec<usize>, AllocError>
+    requires { (v : ℕ) → IsStepOf plans.now v → v < MOST_NODES }
+    ensures { IfOk result (λ steps. (v : ℕ) → Contains steps.items v → IsStepOf plans.now v) }
 {
-    let mut best = 0;
-    for place in 1..plans.len() {
-        if plans[place].steps().len() > plans[best].steps().len() {
-            best = place;
+    let mut all = NodeSet::empty();
+    for plan in plans {
+        all.insert_all(plan.steps());
+    }
+    let mut steps = Vec::with_capacity(alloc, order.len())?;
+    for v in order {
+        if *v < MOST_NODES && all.holds(*v) {
+            steps.push(*v)?;
         }
     }
-    best
+    Ok(steps)
 }
 
-/// The nodes that the plans eliminate, each once: those of the longest plan in its order, and then what each plan has
+/// The nodes that the plans eliminate, each once: in this order as far as it has them, and then what each plan has
 /// besides.
-fn list_steps(alloc: Global, plans: &[Plan]) -> Result<Vec<usize>, AllocError>
-    requires some { 0 < length plans.now }
-    requires known { (v : ℕ) → IsStepOf plans.now v → v < MOST_NODES }
+fn list_steps(alloc: Global, plans: &[Plan], order: &[usize]) -> Result<Vec<usize>, AllocError>
+    requires { (v : ℕ) → IsStepOf plans.now v → v < MOST_NODES }
     ensures once { IfOk result (λ steps. AllDifferent steps.items) }
     ensures all { IfOk result (λ steps. (v : ℕ) → Contains steps.items v ↔ IsStepOf plans.now v) }
 {
+    let ordered = ordered_steps(alloc, plans, order)?;
     let mut listed = NodeSet::empty();
-    let mut steps = Vec::new(alloc);
-    list_new(plans[longest(plans)].steps(), &mut listed, &mut steps)?;
+    let mut steps = Vec::with_capacity(alloc, ordered.len())?;
+    list_new(&ordered, &mut listed, &mut steps)?;
     for plan in plans {
         list_new(plan.steps(), &mut listed, &mut steps)?;
     }
@@ -129,48 +133,15 @@ pub(crate) fn list_goals(alloc: Global, plans: &[Plan]) -> Result<Vec<usize>, Al
     Ok(goals)
 }
 
-/// Whether the first so many of the plans may be summed together, by their work: `most_work` tells why. Where none may,
-/// nothing need be listed for a joint sum.
-fn may_share(plans: &[Plan]) -> bool
-    ensures { IsTrue result → 0 < length plans.now }
-{
-    let mut all: u128 = 0;
-    let mut largest = 0;
-    for plan in plans {
-        let work = plan.size().work;
-        all = all.saturating_add(work);
-        largest = work.max(largest);
-        if largest <= all / 4 {
-            return true;
-        }
-    }
-    false
-}
-
-/// How much work a joint sum may take in place of these plans: a quarter of theirs, since cells of pairs take longer.
-/// `None` where the largest of the plans alone takes more, since the joint sum, which has all of its nodes, mostly would
-/// too.
-fn most_work(plans: &[Plan]) -> Option<u64>
-    ensures { IfSome result (λ work. 4 * work ≤ sum_by (λ plan. plan.size.work) plans.now) }
-{
-    let mut all: u128 = 0;
-    let mut largest = 0;
-    for plan in plans {
-        let work = plan.size().work;
-        all = all.saturating_add(work);
-        largest = work.max(largest);
-    }
-    let most = u64::try_from(all / 4).unwrap_or(u64::MAX);
-    (largest <= most as u128).then_some(most)
-}
-
 impl JointSums {
-    /// What the joint sums of these goals share, all goals of the decision, which have these plans.
+    /// What the joint sums of these goals share, all goals of the decision, which have these plans. Nodes are summed out in
+    /// this order as far as it has them.
     fn new(
         alloc: Global,
         setting: &Setting,
         goals: &[usize],
         plans: &[Plan],
+        order: &[usize],
     ) -> Result<JointSums, AllocError>
         requires setting { HoldsSetting setting.now }
         requires goals { goals.now ≡ goals_in setting.now }
@@ -183,7 +154,7 @@ impl JointSums {
         let ruled = setting.scope.difference(&left_out);
         Ok(JointSums {
             ruled: list_scope(alloc, setting.diagram, &ruled)?,
-            steps: list_steps(alloc, plans)?,
+            steps: list_steps(alloc, plans, order)?,
             total: product_in(setting.totals, &ruled),
         })
     }
@@ -256,14 +227,13 @@ impl JointSums {
         }
     }
 
-    /// Adds what the first of these goals give to each gain: as many as surely fit into one sum, where that has room and
-    /// takes little enough work. Gives how many they were.
+    /// Adds what the first of these goals give to each gain: as many as surely fit into one sum, where they are two or more
+    /// and no fewer than half, and the sum has room. Gives how many they were.
     fn add_first(
         &self,
         alloc: Global,
         setting: &Setting,
         goals: &[usize],
-        plans: &[Plan],
         cells: usize,
         work: &mut Workspace<Both>,
         lists: &mut RunLists,
@@ -272,7 +242,6 @@ impl JointSums {
         requires setting { HoldsSetting setting.now }
         requires joint { IsJointIn setting.now self.now }
         requires goals { AreGoals setting.now.diagram.now.nodes setting.now.decision goals.now }
-        requires plans { length plans.now ≡ length goals.now }
         requires ready { IsEmptyWithin cells work.old }
         requires room { HasRoomForGoalsIn setting.now goals.now gains.old }
         ensures few { IfOk result (λ n. n ≤ length goals.now) }
@@ -281,29 +250,28 @@ impl JointSums {
         ensures len { length gains.new ≡ length gains.old }
     {
         let count = self.fitting(setting.diagram, goals);
-        if count < 2 {
+        if count < 2 || count < goals.len() - count {
             return Ok(0);
         }
-        match most_work(before(plans, count)) {
-            Some(most) => {
-                let limits = Limits { cells, work: most };
-                let goals = before(goals, count);
-                let added = self.sum_goals(alloc, setting, goals, limits, work, lists, gains)?;
-                release(work);
-                Ok(added)
-            }
-            None => Ok(0),
-        }
+        let limits = Limits {
+            cells,
+            work: u64::MAX,
+        };
+        let goals = before(goals, count);
+        let added = self.sum_goals(alloc, setting, goals, limits, work, lists, gains)?;
+        release(work);
+        Ok(added)
     }
 }
 
 /// Adds what the decision's goals give to each gain, several of them together, for as long as that serves: up to the
-/// first that are better summed one by one. Gives how many goals were added, the first ones.
+/// first that are better summed one by one. Gives how many goals were added, the first ones; none without an order.
 pub(crate) fn add_together(
     alloc: Global,
     setting: &Setting,
     goals: &[usize],
     plans: &[Plan],
+    order: &[usize],
     cells: usize,
     work: &mut Workspace<Both>,
     lists: &mut RunLists,
@@ -320,18 +288,14 @@ pub(crate) fn add_together(
     ensures len { length gains.new ≡ length gains.old }
 {
     plans_keep_scopes();
-    if goals.len() < 2 {
+    if goals.len() < 2 || order.is_empty() {
         return Ok(0);
     }
-    if !may_share(plans) {
-        return Ok(0);
-    }
-    let joint = JointSums::new(alloc, setting, goals, plans)?;
+    let joint = JointSums::new(alloc, setting, goals, plans, order)?;
     let mut done = 0;
     'parts: while done < goals.len() {
         let rest = behind(goals, done);
-        let plans = behind(plans, done);
-        let added = joint.add_first(alloc, setting, rest, plans, cells, work, lists, gains)?;
+        let added = joint.add_first(alloc, setting, rest, cells, work, lists, gains)?;
         if added == 0 {
             break;
         }

@@ -114,7 +114,7 @@ fn choose(
         totals: &base.totals,
         scope: decision_scope(diagram, decision),
     };
-    let gains = setting.row_gains(alloc, &plans.goals, spaces)?;
+    let gains = setting.row_gains(alloc, &plans.goals, &plans.joint_order, spaces)?;
     choose_rows(alloc, &gains, rows, states)
 }
 

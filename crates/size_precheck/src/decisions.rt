@@ -8,6 +8,7 @@ ghost use Rattle.size_precheck.specs.Families.{IsPlanner};
 ghost use Rattle.size_precheck.specs.Joints.{HoldsOfEach};
 ghost use Rattle.size_precheck.specs.Sizes.{AreGainPlans, ArePlansOfGoals};
 
+use crate::joint_orders::joint_order;
 use crate::kinds::{gain_by, rows_by};
 use crate::planners::Planner;
 use crate::plans::Plan;
@@ -22,6 +23,9 @@ pub struct DecisionPlans {
     pub rows: Plan,
     /// Those of its states, one for each of its goals in text order.
     pub goals: Vec<Plan>,
+    /// The nodes that these eliminate, in an order in which all goals may be summed together; empty where that would take
+    /// longer. What the sums give does not depend on it.
+    pub joint_order: Vec<usize>,
 }
 
 /// Copies of these plans.
@@ -43,7 +47,11 @@ impl DecisionPlans {
     {
         let rows = self.rows.copy(alloc)?;
         let goals = copy_plans(alloc, &self.goals)?;
-        Ok(DecisionPlans { rows, goals })
+        Ok(DecisionPlans {
+            rows,
+            goals,
+            joint_order: Vec::from_slice(alloc, &self.joint_order)?,
+        })
     }
 }
 
@@ -96,7 +104,12 @@ pub fn plan_decision_by(
 {
     let rows = rows_by(alloc, diagram, planner, decision)?;
     let goals = plan_goals(alloc, diagram, planner, decision)?;
-    Ok(DecisionPlans { rows, goals })
+    let joint_order = joint_order(alloc, diagram, planner, decision, &goals)?;
+    Ok(DecisionPlans {
+        rows,
+        goals,
+        joint_order,
+    })
 }
 
 /// The plans of a decision: that of its rows, and one for each utility of its agent that descends from it. `make_plan`

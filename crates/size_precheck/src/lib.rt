@@ -5,6 +5,7 @@
 mod classes;
 mod counts;
 mod decisions;
+mod joint_orders;
 mod joints;
 mod keeping;
 mod kinds;

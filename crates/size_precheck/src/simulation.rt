@@ -26,13 +26,13 @@ pub struct Start {
 
 /// What a step makes.
 #[derive(Clone, Copy)]
-struct Made {
+pub struct Made {
     /// The cells of the table that it makes.
-    cells: u64,
+    pub cells: u64,
     /// The cells of the joined set times the number of tables joined.
-    work: u64,
+    pub work: u64,
     /// How many tables are joined.
-    tables: usize,
+    pub tables: usize,
 }
 
 /// What is known after the last step.
@@ -160,7 +160,7 @@ fn put_made(
 }
 
 /// Joins the tables that hold v, which waits no more, and puts the table over their joined set without v in their place.
-fn eliminate(
+pub fn eliminate(
     states: &[u64],
     known: &mut Known,
     classes: &mut Vec<Class>,

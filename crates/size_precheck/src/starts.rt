@@ -166,7 +166,7 @@ fn narrow_all(
 }
 
 /// Copies of what is known of the nodes, in which those that wait have the tables of these nodes alone.
-fn list_narrowed(
+pub fn list_narrowed(
     alloc: Global,
     planner: &Planner,
     ruled: &NodeSet,
@@ -195,7 +195,7 @@ fn list_narrowed(
 }
 
 /// Puts the table of the utility.
-fn put_utility(states: &[u64], known: &mut Known, waiting: &NodeSet, table: &Table)
+pub fn put_utility(states: &[u64], known: &mut Known, waiting: &NodeSet, table: &Table)
     requires states { length states.now ≡ MOST_NODES }
     requires tag { table.now.tag < MOST_NODES }
     requires len { length known.old.counts.items ≡ length known.old.joints.items }
@@ -223,7 +223,7 @@ pub fn node_table(diagram: &Diagram, v: usize) -> Table
 }
 
 /// The table of a utility: over its parents.
-fn utility_table(diagram: &Diagram, u: usize) -> Table
+pub fn utility_table(diagram: &Diagram, u: usize) -> Table
     requires { u < length diagram.now.nodes }
     ensures tag { result.tag ≡ u }
     ensures scope { (x : ℕ) → IsIn result.scope x ↔ Contains (parents_of diagram.now.nodes u) x }

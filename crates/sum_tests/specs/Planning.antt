@@ -28,6 +28,17 @@ square_diagram = diagram_of (square_nodes ++ pay ∷ []) 1 0
 abbrev pub twice_paid : DiagramView
 twice_paid = diagram_of (square_nodes ++ pay ∷ pay ∷ []) 1 0
 
+-- two chance nodes, a decision that sees nothing, and three utilities over the second of them and the decision
+abbrev pub thrice_paid : DiagramView
+thrice_paid = diagram_of (
+    chance_node 2 [] (pos 1 ∷ pos 1 ∷ [])
+    ∷ chance_node 2 (0 ∷ []) ones
+    ∷ decision_node 0 2 []
+    ∷ utility_node 0 (1 ∷ 2 ∷ []) ones
+    ∷ utility_node 0 (1 ∷ 2 ∷ []) ones
+    ∷ utility_node 0 (1 ∷ 2 ∷ []) ones
+    ∷ []) 1 0
+
 -- a chance node, a decision that sees it, and a utility over both
 abbrev pub sighted_diagram : DiagramView
 sighted_diagram = diagram_of (

@@ -1,12 +1,13 @@
 //! Sizes of small plans, counted by hand.
 
 ghost use Rattle.std.specs.Prelude.{◌≡◌, IfOk};
-ghost use Rattle.sum_tests.specs.Planning.{blind_diagram, seeing_diagram, sighted_diagram, square_diagram, star_diagram, twice_paid};
+ghost use Rattle.sum_tests.specs.Planning.{blind_diagram, seeing_diagram, sighted_diagram, square_diagram, star_diagram, thrice_paid, twice_paid};
 
 use maid_model::Diagram;
 use sample_diagrams::{chance, decision, sample_diagram, utility};
 use size_precheck::{
-    Plan, Planner, Size, keep_edited, make_plan, measure, plan_by, plan_run_by, plan_worths,
+    Plan, Planner, Size, keep_edited, make_plan, measure, plan_by, plan_decision, plan_run_by,
+    plan_worths,
 };
 use std::alloc::{AllocError, Global};
 use std::test::Fail;
@@ -180,6 +181,35 @@ fn keeps_worths(alloc: Global) -> Result<bool, AllocError> {
 #[test]
 fn worths_beside_an_edit(rt: HostRuntime) -> Result<(), Fail> {
     assert!(rt; keeps_worths(rt.alloc())?);
+    Ok(())
+}
+
+/// Two chance nodes, a decision that sees nothing, and three utilities over the second chance node and the decision.
+fn thrice_paid(alloc: Global) -> Result<Diagram, AllocError>
+    ensures { IfOk result (λ d. d ≡ thrice_paid) }
+{
+    let nodes = [
+        chance(2, &[], &[1, 1]),
+        chance(2, &[0], &[1, 1, 1, 1]),
+        decision(0, 2, &[]),
+        utility(0, &[1, 2], &[1, 1, 1, 1]),
+        utility(0, &[1, 2], &[1, 1, 1, 1]),
+        utility(0, &[1, 2], &[1, 1, 1, 1]),
+    ];
+    sample_diagram(alloc, &nodes, 1, 0)
+}
+
+/// Whether three goals are summed together in this order, and one goal alone is not.
+fn orders_joint_sums(alloc: Global) -> Result<bool, AllocError> {
+    let three = plan_decision(alloc, &thrice_paid(alloc)?, 2)?;
+    let one = plan_decision(alloc, &sighted(alloc)?, 1)?;
+    Ok(three.joint_order.as_slice() == [0, 1].as_slice() && one.joint_order.is_empty())
+}
+
+// The first joined set of the first node has four cells, that of the second eight.
+#[test]
+fn orders_of_joint_sums(rt: HostRuntime) -> Result<(), Fail> {
+    assert!(rt; orders_joint_sums(rt.alloc())?);
     Ok(())
 }
 

@@ -73,8 +73,8 @@ returns-then-keep_choices-clause-rows c =
     let alike : (row : ℕ) → DecidesAlike nodes p (scope_of nodes d) d row =
     (λ row. c.parts_decide.ensures.choices nodes p (scope_of nodes d) d row is.graph is.tables c.requires.pure.profile scope.0 c.requires.fits.decision scope.2 scope.3) in
     let sums : IsRowGains nodes p d c.in_ok-gains.gains.items = subst (λ e. IsRowGains nodes p e c.in_ok-gains.gains.items) same c.in_ok-gains.ensures.gains in
-    keep_by nodes p d alike c.in_ok-gains.gains.items sums c.deref-3.result.now c.states-states.result c.args.answer.now.rows c.deref-4.result.now c.deref-3.ensures.value (c.states-states.ensures.states ∙ ap (states_of nodes) same)
-    (c.deref-4.ensures.value ∙ ap (λ (a : AnswerView). a.rows) c.answer.view_is) c.requires.fits.rows (c.keep_choices.ensures.0 c.if-keep_choices.true)
+    keep_by nodes p d alike c.in_ok-gains.gains.items sums c.deref-4.result.now c.states-states.result c.args.answer.now.rows c.deref-5.result.now c.deref-4.ensures.value (c.states-states.ensures.states ∙ ap (states_of nodes) same)
+    (c.deref-5.ensures.value ∙ ap (λ (a : AnswerView). a.rows) c.answer.view_is) c.requires.fits.rows (c.keep_choices.ensures.0 c.if-keep_choices.true)
 
 pub returns-clause-rows : goal.returns-clause-rows
 returns-clause-rows c =
@@ -87,14 +87,14 @@ returns-clause-rows c =
     let alike : (row : ℕ) → DecidesAlike nodes p (scope_of nodes d) d row =
     (λ row. c.parts_decide.ensures.choices nodes p (scope_of nodes d) d row is.graph is.tables c.requires.pure.profile scope.0 c.requires.fits.decision scope.2 scope.3) in
     let sums : IsRowGains nodes p d c.in_ok-gains.gains.items = subst (λ e. IsRowGains nodes p e c.in_ok-gains.gains.items) same c.in_ok-gains.ensures.gains in
-    let own : c.deref-6.result.now ≡ c.args.answer.now.rows = c.deref-6.ensures.value ∙ ap (λ (a : AnswerView). a.rows) c.answer.view_is in
+    let own : c.deref-7.result.now ≡ c.args.answer.now.rows = c.deref-7.ensures.value ∙ ap (λ (a : AnswerView). a.rows) c.answer.view_is in
     let after = c.in_ok-improved_rows.field-0.items in
     let states = c.states-states.result in (
-      improve_by nodes p d alike c.in_ok-gains.gains.items sums c.deref-5.result.now states c.args.answer.now.rows c.deref-6.result.now after c.deref-5.ensures.value (c.states-states.ensures.states ∙ ap (states_of nodes) same) own c.requires.fits.rows c.in_ok-improved_rows.ensures,
+      improve_by nodes p d alike c.in_ok-gains.gains.items sums c.deref-6.result.now states c.args.answer.now.rows c.deref-7.result.now after c.deref-6.ensures.value (c.states-states.ensures.states ∙ ap (states_of nodes) same) own c.requires.fits.rows c.in_ok-improved_rows.ensures,
       (λ h. not_both (sym c.if-keep_choices.false ∙ c.keep_choices.ensures.1
-          (subst (λ (g : List ℤ). KeepChoices (gain_in g states) states c.deref-4.result.now) (c.deref-5.ensures.value ∙ sym c.deref-3.ensures.value)
-          (subst (λ (r : List Row). KeepChoices (gain_in c.deref-5.result.now states) states r) (c.deref-6.ensures.value ∙ sym c.deref-4.ensures.value)
-          (kept_by_same (gain_in c.deref-5.result.now states) states c.deref-6.result.now after c.in_ok-improved_rows.ensures (subst (λ (r : List Row). AreSameChoices after r) (sym own) h)))))),
+          (subst (λ (g : List ℤ). KeepChoices (gain_in g states) states c.deref-5.result.now) (c.deref-6.ensures.value ∙ sym c.deref-4.ensures.value)
+          (subst (λ (r : List Row). KeepChoices (gain_in c.deref-6.result.now states) states r) (c.deref-7.ensures.value ∙ sym c.deref-5.ensures.value)
+          (kept_by_same (gain_in c.deref-6.result.now states) states c.deref-7.result.now after c.in_ok-improved_rows.ensures (subst (λ (r : List Row). AreSameChoices after r) (sym own) h)))))),
     )
   where
     not_both : false ≡ true → ⊥

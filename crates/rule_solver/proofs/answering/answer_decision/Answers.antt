@@ -8,7 +8,6 @@ use Rattle.maid_model.specs.Gains.{gain_in}
 use Rattle.part_laws.specs.PartLaws.{DecidesAlike}
 use Rattle.rule_solver.specs.Answered.{IsAnsweredBy}
 use Rattle.rule_solver.specs.Rows.{AnswersRows}
-use Rattle.rule_solver.specs.Totals.{HasTotals}
 use Rattle.rule_solver.specs.Sums.{IsRowSums}
 use Rattle.rule_solver.specs.Totals.{HasTotals}
 use Rattle.rule_solver.proofs.DecisionLemmas.{answered_by}

@@ -3,7 +3,6 @@ use Rattle.std.proofs.Common.{ℕ, ◌≤◌, All, List, Result, Ok, Err, IfOk, 
 use Rattle.maid_model.specs.declared.limits.TheConstants.{MOST_PLAN_CELLS}
 use Rattle.size_precheck.specs.declared.sizes.Size.{Size}
 use Rattle.size_precheck.specs.Sizes.{SizedPlan}
-use Rattle.rule_solver.specs.declared.spaces.Workspaces.{Workspaces}
 use Rattle.rule_solver.specs.Rooms.{AreReady, AreReadyForDecision}
 use Rattle.rule_solver.proofs.GoalPlans.{kept_room, room_kept}
 use Rattle.rule_solver.proofs.decision_sums.spaces_for.Goals as goal

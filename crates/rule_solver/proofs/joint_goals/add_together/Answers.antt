@@ -1,5 +1,5 @@
 -- Some of the goals, and then some of the others.
-use Rattle.std.proofs.Common.{◌≡◌, ◌∙◌, ℕ, ℤ, ◌*◌, ◌≤◌, ◌-◌, ◌<◌, Contains, List, [], length, take, drop, sym, ap, subst, arith, nat_abs, length-drop, refl}
+use Rattle.std.proofs.Common.{◌≡◌, ◌∙◌, ℕ, ℤ, ◌*◌, ◌≤◌, ◌<◌, Contains, List, [], length, take, drop, sym, ap, subst, arith, nat_abs, length-drop, refl}
 use Rattle.std.proofs.lemmas.List.{append-nil}
 use Rattle.finite_sums.specs.Members.{Among}
 use Rattle.finite_sums.specs.Sums.{World, InRange}
@@ -12,8 +12,6 @@ use Rattle.maid_model.specs.Scopes.{goals_of, scope_product}
 use Rattle.maid_model.specs.Views.{NodeView, RuleView}
 use Rattle.rule_solver.specs.Rooms.{IsEmptyWithin}
 use Rattle.rule_solver.specs.Sums.{AddsGoals, HasGoals, HasRoomForGoals, goal_part}
-use Rattle.size_precheck.specs.Sizes.{SizedPlan}
-use Rattle.rule_solver.proofs.GoalPlans.{goal_plans_long}
 use Rattle.rule_solver.proofs.JointNodes.{goal_listed_is}
 use Rattle.rule_solver.proofs.JointLists.{all_goals, first_in, other_in, other_goals}
 use Rattle.rule_solver.proofs.SettingLemmas.{part_small}
@@ -26,13 +24,6 @@ none_more nodes p d n us list before after none so adds =
     subst (λ (l : List ℕ). HasGoals nodes p d l after) (append-nil us)
     (goals_more nodes p d us [] before after (λ u m. absurd m) so (subst (λ k. AddsGoals nodes p d (take k list) before after) none adds))
 
-pub behind-plans-requires : goal.behind-plans-requires
-behind-plans-requires c =
-    let long = goal_plans_long c.args.setting.now.diagram.now.nodes c.args.setting.now.decision c.args.plans.now c.requires.planned in
-    let list : length c.args.goals.now ≡ length (goals_of c.args.setting.now.diagram.now.nodes c.args.setting.now.decision) = ap (λ (l : List ℕ). length l) c.requires.goals in
-    let few = c.parts.invariant.0 in
-    omega (arith, long, list, few)
-
 pub add_first-requires-clause-goals : goal.add_first-requires-clause-goals
 add_first-requires-clause-goals c =
     let nodes = c.args.setting.now.diagram.now.nodes in
@@ -42,14 +33,6 @@ add_first-requires-clause-goals c =
     let all : AreGoals nodes c.args.setting.now.decision c.args.goals.now = subst (AreGoals nodes c.args.setting.now.decision) (sym c.requires.goals) (all_goals nodes c.args.setting.now.decision s.is_diagram.graph s.is_decision (omega (arith, here, list))) in
     subst (AreGoals nodes c.args.setting.now.decision) (sym c.behind-rest.ensures)
     (other_goals nodes c.args.setting.now.decision c.parts.done c.args.goals.now here all)
-
-pub add_first-requires-clause-plans : goal.add_first-requires-clause-plans
-add_first-requires-clause-plans c =
-    let long = goal_plans_long c.args.setting.now.diagram.now.nodes c.args.setting.now.decision c.args.plans.now c.requires.planned in
-    let list : length c.args.goals.now ≡ length (goals_of c.args.setting.now.diagram.now.nodes c.args.setting.now.decision) = ap (λ (l : List ℕ). length l) c.requires.goals in
-    ap (λ (l : List SizedPlan). length l) c.behind-plans.ensures ∙ length-drop c.parts.done c.args.plans.now
-    ∙ ap (λ n. n - c.parts.done) (long ∙ sym list)
-    ∙ sym (length-drop c.parts.done c.args.goals.now) ∙ sym (ap (λ (l : List ℕ). length l) c.behind-rest.ensures)
 
 pub add_first-requires-clause-room : goal.add_first-requires-clause-room
 add_first-requires-clause-room c =
@@ -91,15 +74,6 @@ returns-then-goals-lt2-clause-again c = refl
 
 pub returns-then-goals-lt2-clause-len : goal.returns-then-goals-lt2-clause-len
 returns-then-goals-lt2-clause-len c = refl
-
-pub returns-then-not-may_share-clause-gains : goal.returns-then-not-may_share-clause-gains
-returns-then-not-may_share-clause-gains c = c.requires.none
-
-pub returns-then-not-may_share-clause-again : goal.returns-then-not-may_share-clause-again
-returns-then-not-may_share-clause-again c = refl
-
-pub returns-then-not-may_share-clause-len : goal.returns-then-not-may_share-clause-len
-returns-then-not-may_share-clause-len c = refl
 
 pub new-requires-clause-setting : goal.new-requires-clause-setting
 new-requires-clause-setting c = c.requires.setting

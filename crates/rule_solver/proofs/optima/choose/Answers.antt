@@ -6,7 +6,6 @@ use Rattle.maid_model.specs.Scopes.{scope_of}
 use Rattle.maid_model.specs.Gains.{gain_in}
 use Rattle.part_laws.specs.PartLaws.{DecidesAlike}
 use Rattle.rule_solver.specs.Optima.{ChoosesRows, IsChosenBy}
-use Rattle.rule_solver.specs.Totals.{HasTotals}
 use Rattle.rule_solver.specs.Sums.{IsRowGains}
 use Rattle.rule_solver.specs.Totals.{HasTotals}
 use Rattle.rule_solver.proofs.ChoiceLemmas.{chosen_by}
@@ -21,8 +20,8 @@ returns-clause-rows c =
     let scope = c.scopes_are_parts.ensures.decisions nodes d is.graph c.requires.decision in
     let alike : (row : ℕ) → DecidesAlike nodes base (scope_of nodes d) d row =
     (λ row. c.parts_decide.ensures.choices nodes base (scope_of nodes d) d row is.graph is.tables c.requires.profile scope.0 c.requires.decision scope.2 scope.3) in
-    let gains = c.deref-3.result.now in
-    let sums : IsRowGains nodes base d gains = subst (λ (g : List ℤ). IsRowGains nodes base d g) (sym c.deref-3.ensures.value) c.in_ok-gains.ensures.gains in
+    let gains = c.deref-4.result.now in
+    let sums : IsRowGains nodes base d gains = subst (λ (g : List ℤ). IsRowGains nodes base d g) (sym c.deref-4.ensures.value) c.in_ok-gains.ensures.gains in
     IfOk-weaker c.choose_rows.result (λ v. ChoosesRows (gain_in gains (states_of nodes d)) (states_of nodes d) (rows_of nodes d) v.items) (λ v. IsChosenBy nodes base d v.items)
     (λ v h. chosen_by nodes base d gains v.items alike sums h)
     (subst (λ n. IfOk c.choose_rows.result (λ v. ChoosesRows (gain_in gains n) n (rows_of nodes d) v.items)) c.states-states.ensures.states

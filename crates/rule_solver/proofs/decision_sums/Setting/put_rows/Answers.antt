@@ -2,7 +2,7 @@
 use Rattle.std.proofs.Common.{◌≡◌, ◌∙◌, ◌≤◌, sym, subst, refl, arith}
 use Rattle.maid_model.specs.Diagrams.{greatest_number}
 use Rattle.plan_sums.specs.Plans.{row_plan}
-use Rattle.rule_solver.proofs.GoalPlans.{members_are, members_small}
+use Rattle.rule_solver.proofs.GoalPlans.{members_are}
 use Rattle.rule_solver.proofs.Missing.{totals_positive}
 use Rattle.rule_solver.proofs.SettingLemmas.{rows_missing, rows_missing_small, rows_total}
 use Rattle.std.proofs.lemmas.Result.{on_ok_weaker}

@@ -31,9 +31,6 @@ returns-then-count-lt2-clause-again c = refl
 pub returns-then-count-lt2-clause-len : goal.returns-then-count-lt2-clause-len
 returns-then-count-lt2-clause-len c = refl
 
-pub before-requires : goal.before-requires
-before-requires c = omega (arith, c.fitting-count.ensures.few, c.requires.plans)
-
 pub before-goals-requires : goal.before-goals-requires
 before-goals-requires c = c.fitting-count.ensures.few
 
@@ -51,32 +48,23 @@ sum_goals-requires-clause-fits c =
 pub sum_goals-requires-clause-ready : goal.sum_goals-requires-clause-ready
 sum_goals-requires-clause-ready c = c.requires.ready
 
-pub returns-in_ok-added-in-Some-clause-few : goal.returns-in_ok-added-in-Some-clause-few
-returns-in_ok-added-in-Some-clause-few c =
-    omega (arith, c.in_ok-added-in-Some.ensures.few, ap (λ (l : List ℕ). length l) c.before-goals.ensures, length-take c.fitting-count.result c.args.goals.now, c.fitting-count.ensures.few)
+pub returns-clause-few : goal.returns-clause-few
+returns-clause-few c =
+    omega (arith, c.in_ok-added.ensures.few, ap (λ (l : List ℕ). length l) c.before-goals.ensures, length-take c.fitting-count.result c.args.goals.now, c.fitting-count.ensures.few)
 
-pub returns-in_ok-added-in-Some-clause-adds : goal.returns-in_ok-added-in-Some-clause-adds
-returns-in_ok-added-in-Some-clause-adds c =
-    let n = c.in_ok-added-in-Some.added in
-    let fewer : n ≤ c.fitting-count.result = omega (arith, c.in_ok-added-in-Some.ensures.few, ap (λ (l : List ℕ). length l) c.before-goals.ensures, length-take c.fitting-count.result c.args.goals.now, c.fitting-count.ensures.few) in
-    subst (λ (l : List ℕ). AddsGoals c.args.setting.now.diagram.now.nodes c.args.setting.now.base.now c.args.setting.now.decision l c.args.gains.now c.sum_goals.new.gains) (ap (λ (l : List ℕ). take n l) c.before-goals.ensures ∙ take-take n c.fitting-count.result c.args.goals.now fewer) c.in_ok-added-in-Some.ensures.adds
+pub returns-clause-adds : goal.returns-clause-adds
+returns-clause-adds c =
+    let n = c.in_ok-added.added in
+    let fewer : n ≤ c.fitting-count.result = omega (arith, c.in_ok-added.ensures.few, ap (λ (l : List ℕ). length l) c.before-goals.ensures, length-take c.fitting-count.result c.args.goals.now, c.fitting-count.ensures.few) in
+    subst (λ (l : List ℕ). AddsGoals c.args.setting.now.diagram.now.nodes c.args.setting.now.base.now c.args.setting.now.decision l c.args.gains.now c.sum_goals.new.gains) (ap (λ (l : List ℕ). take n l) c.before-goals.ensures ∙ take-take n c.fitting-count.result c.args.goals.now fewer) c.in_ok-added.ensures.adds
 
-pub returns-in_ok-added-in-Some-clause-again : goal.returns-in_ok-added-in-Some-clause-again
-returns-in_ok-added-in-Some-clause-again c =
-    let spare : c.sum_goals.new.work.spare + length c.sum_goals.new.work.cells ≡ c.args.work.now.spare = omega (arith, c.in_ok-added-in-Some.ensures.space, c.requires.ready.spare) in
+pub returns-clause-again : goal.returns-clause-again
+returns-clause-again c =
+    let spare : c.sum_goals.new.work.spare + length c.sum_goals.new.work.cells ≡ c.args.work.now.spare = omega (arith, c.in_ok-added.ensures.space, c.requires.ready.spare) in
     c.release.ensures ∙ (λ i. record { cells = sym c.requires.ready.empty i; spare = spare i })
 
-pub returns-in_ok-added-in-Some-clause-len : goal.returns-in_ok-added-in-Some-clause-len
-returns-in_ok-added-in-Some-clause-len c = c.sum_goals.ensures.len
+pub returns-clause-len : goal.returns-clause-len
+returns-clause-len c = c.sum_goals.ensures.len
 
-pub returns-in_err-added-in-Some-clause-len : goal.returns-in_err-added-in-Some-clause-len
-returns-in_err-added-in-Some-clause-len c = c.sum_goals.ensures.len
-
-pub returns-in-None-clause-adds : goal.returns-in-None-clause-adds
-returns-in-None-clause-adds c = adds_none c.args.setting.now.diagram.now.nodes c.args.setting.now.base.now c.args.setting.now.decision c.args.gains.now
-
-pub returns-in-None-clause-again : goal.returns-in-None-clause-again
-returns-in-None-clause-again c = refl
-
-pub returns-in-None-clause-len : goal.returns-in-None-clause-len
-returns-in-None-clause-len c = refl
+pub returns-in_err-added-clause-len : goal.returns-in_err-added-clause-len
+returns-in_err-added-clause-len c = c.sum_goals.ensures.len

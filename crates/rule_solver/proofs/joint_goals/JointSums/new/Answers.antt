@@ -1,7 +1,6 @@
 -- What the joint sums share, by the plans of the goals.
 use Rattle.std.proofs.Common.{◌≡◌, ◌∙◌, ℕ, ◌<◌, Contains, List, length, slice_index, ap, subst, arith}
 use Rattle.maid_model.specs.Scopes.{goals_of}
-use Rattle.rule_solver.proofs.GoalPlans.{goal_plans_long}
 use Rattle.rule_solver.proofs.JointNodes.{goal_within, left_members, order_is, ruled_fits, ruled_list, ruled_total, step_within}
 use Rattle.rule_solver.proofs.SettingLemmas.{goal_at}
 use Rattle.rule_solver.proofs.joint_goals.JointSums.new.Goals as goal
@@ -13,15 +12,8 @@ insert_all-requires c v m =
     let few = s.is_diagram.limits.nodes in
     omega (arith, within, few)
 
-pub list_steps-requires-clause-some : goal.list_steps-requires-clause-some
-list_steps-requires-clause-some c =
-    let long = goal_plans_long c.args.setting.now.diagram.now.nodes c.args.setting.now.decision c.args.plans.now c.requires.planned in
-    let some = c.requires.some in
-    let list : length c.args.goals.now ≡ length (goals_of c.args.setting.now.diagram.now.nodes c.args.setting.now.decision) = ap (λ (l : List ℕ). length l) c.requires.goals in
-    omega (arith, long, some, list)
-
-pub list_steps-requires-clause-known : goal.list_steps-requires-clause-known
-list_steps-requires-clause-known c v m =
+pub list_steps-requires : goal.list_steps-requires
+list_steps-requires c v m =
     let s = c.requires.setting in
     let within = step_within c.args.setting.now.diagram.now.nodes s.is_diagram.graph c.args.setting.now.decision s.is_decision c.args.plans.now c.requires.planned v m in
     let few = s.is_diagram.limits.nodes in
