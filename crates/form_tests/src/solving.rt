@@ -8,8 +8,10 @@ ghost use Rattle.rule_solver.specs.Rooms.{HasRoomForRun};
 use crate::samples::reply_diagram;
 use maid_model::{Answer, Diagram, MOST_PLAN_CELLS, Profile, Ratio, Row};
 use relevance_graph::find_relevance;
-use rule_solver::{SolveFault, measured_plans_have_room, row_sums, solve};
-use size_precheck::measure;
+use rule_solver::{
+    RowSums, SolveFault, measured_plans_have_room, row_sums, row_sums_by, solve, spaces_for,
+};
+use size_precheck::{Planner, measure, plan_decision_by};
 use std::alloc::{AllocError, Global};
 use std::test::Fail;
 use weight_scale::{BoundPlace, bound};
@@ -68,7 +70,12 @@ fn has_room(alloc: Global, diagram: &Diagram) -> Result<bool, AllocError>
     }
 }
 
-/// Whether the diagram has room, and the reply's sums against even rules are what the pairs pay.
+/// Whether these are the reply's sums against an even choice of plans: what the pairs pay, and a plan's mass in each row.
+fn are_of_reply(sums: &RowSums) -> bool {
+    sums.gains.as_slice() == [1, 4, 3, 2].as_slice() && sums.masses.as_slice() == [1, 1].as_slice()
+}
+
+/// Whether the diagram has room, and the reply's sums are as told.
 fn is_summed(alloc: Global) -> Result<bool, AllocError> {
     let diagram = reply_diagram(alloc)?;
     if !has_room(alloc, &diagram)? {
@@ -76,15 +83,29 @@ fn is_summed(alloc: Global) -> Result<bool, AllocError> {
     }
     let profile = Profile::uniform(alloc, &diagram)?;
     let sums = row_sums(alloc, &diagram, &profile, 1)?;
-    Ok(
-        sums.gains.as_slice() == [1, 4, 3, 2].as_slice()
-            && sums.masses.as_slice() == [1, 1].as_slice(),
-    )
+    Ok(are_of_reply(&sums))
+}
+
+/// Whether they come twice, one time after the other, by plans that are made once, in workspaces that these have left.
+fn is_summed_again(alloc: Global) -> Result<bool, AllocError> {
+    let diagram = reply_diagram(alloc)?;
+    if !has_room(alloc, &diagram)? {
+        return Ok(false);
+    }
+    let profile = Profile::uniform(alloc, &diagram)?;
+    let planner = Planner::new(alloc, &diagram)?;
+    let plans = plan_decision_by(alloc, &diagram, &planner, 1)?;
+    let mut spaces = spaces_for(alloc, &diagram, 1, &plans, None)?;
+    let first = row_sums_by(alloc, &diagram, &profile, 1, &plans, &mut spaces)?;
+    let mut spaces = spaces_for(alloc, &diagram, 1, &plans, Some(spaces))?;
+    let second = row_sums_by(alloc, &diagram, &profile, 1, &plans, &mut spaces)?;
+    Ok(are_of_reply(&first) && are_of_reply(&second))
 }
 
 // With an even choice of plans the reply gains in each row what the pair pays, and each row has the mass of one plan.
 #[test]
 fn a_reply_gains_what_the_pairs_pay(rt: HostRuntime) -> Result<(), Fail> {
     assert!(rt; is_summed(rt.alloc())?);
+    assert!(rt; is_summed_again(rt.alloc())?);
     Ok(())
 }
