@@ -4,7 +4,7 @@ use Rattle.std.proofs.lemmas.List.{length-take-le}
 use Rattle.node_sets.specs.declared.sets.NodeSet.{NodeSet}
 use Rattle.node_sets.specs.Sets.{holds, IsIn}
 use Rattle.factor_core.specs.declared.slots.Slot.{Slot}
-use Rattle.eliminate.specs.Places.{slots_from, live_slots, IsBoard}
+use Rattle.eliminate.specs.Places.{slots_from, live_slots, scope_at}
 use Rattle.eliminate.specs.Steps.{slots_with}
 use Rattle.eliminate.proofs.Placing.{held_slots}
 
@@ -63,8 +63,9 @@ pub gathered : (p : ℕ → Bool) (made : ℕ) (slots front found last : List Sl
 gathered p made slots front found last is list e = e ∙ list ∙ ap (slots_from p 0) is
 
 -- and where that is at the node's places
-pub gathered_with : {at : List NodeSet} {slots : List Slot} {live : NodeSet} {made : ℕ} (board : IsBoard at slots live made) (node : ℕ) (held : NodeSet) → node < length at
+pub gathered_with : (at : List NodeSet) (live held : NodeSet) (made node : ℕ) (slots : List Slot)
+    → ((k : ℕ) (none : NodeSet) → IsIn live k → holds (slice_index_or at node none) k ≡ scope_at (take made slots) k node)
     → ((k : ℕ) (none : NodeSet) → IsIn held k ↔ (IsIn live k × IsIn (slice_index_or at node none) k))
     → {front found last : List Slot} → front ≡ take made slots → found ≡ slots_from (holds held) 0 front → last ≡ found → last ≡ slots_with node (live_slots live made slots)
-gathered_with {at} {slots} {live} {made} board node held small are {front} {found} {last} is list e =
-    gathered (holds held) made slots front found last is list e ∙ held_slots at live held made node slots small board.noted are
+gathered_with at live held made node slots tells are {front} {found} {last} is list e =
+    gathered (holds held) made slots front found last is list e ∙ held_slots at live held made node slots tells are

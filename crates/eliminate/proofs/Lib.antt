@@ -1,5 +1,6 @@
 pub mod Stepping
 pub mod Placing
+pub mod Filing
 pub mod Numbers
 pub mod Ruled
 pub mod Standing

@@ -1,11 +1,11 @@
--- Slots at places: which are live, and for each node those that hold it.
-use Rattle.std.proofs.Common.{◌≡◌, ◌∙◌, ℕ, zero, suc, ◌+◌, ◌<◌, ◌≤◌, ◌⊎◌, ◌↔◌, Bool, true, false, cond, not, ◌&&◌, filter, List, [], ◌∷◌, ◌++◌, take, drop, set, length, get_or, slice_index_or, refl, sym, ap, inl, inr, arith}
+-- Slots at places: which are live, and which of these hold a node.
+use Rattle.std.proofs.Common.{◌≡◌, ◌∙◌, ℕ, suc, ◌+◌, ◌<◌, ◌≤◌, ◌⊎◌, ◌↔◌, Bool, true, false, cond, not, ◌&&◌, filter, List, [], ◌∷◌, ◌++◌, take, drop, set, length, get_or, slice_index_or, refl, sym, ap, inl, inr, arith}
 use Rattle.std.proofs.lemmas.List.{take_more, take_more_set, take-take, take-append-drop, append-nil, append_assoc, length-take-le, length-drop}
 use Rattle.std.proofs.lemmas.List.Elements.{filter-append}
 use Rattle.node_sets.specs.declared.sets.NodeSet.{NodeSet}
 use Rattle.node_sets.specs.Sets.{holds, IsIn}
 use Rattle.factor_core.specs.declared.slots.Slot.{Slot}
-use Rattle.eliminate.specs.Places.{slots_from, live_slots, slot_holds, Noted}
+use Rattle.eliminate.specs.Places.{slots_from, live_slots, scope_at}
 use Rattle.eliminate.specs.Steps.{slots_with, slots_without}
 
 -- tests that are passed together are one
@@ -64,46 +64,19 @@ from_more p n place xs d a l h t =
     ∙ ap (λ ys. ys ++ get_or xs place d ∷ [])
     (from_front p n (take place xs) (omega (arith, a, long)) (λ k b c. h k b (omega (arith, c, long))) ∙ ap (slots_from p 0) (take-take n place xs a))
 
--- those that pass another test too
-pub from_filter : (p h : ℕ → Bool) (v i : ℕ) (f : Bool → Bool) (xs : List Slot) → ((k : ℕ) → k < length xs → h (i + k) ≡ slot_holds xs v k)
+-- those that pass another test too, which tells of those that pass the first whether they hold the node
+pub from_filter : (p h : ℕ → Bool) (v i : ℕ) (f : Bool → Bool) (xs : List Slot) → ((k : ℕ) → k < length xs → p (i + k) ≡ true → h (i + k) ≡ scope_at xs k v)
     → filter (λ s. f (holds s.scope v)) (slots_from p i xs) ≡ slots_from (λ k. p k && f (h k)) i xs
 from_filter p h v i f [] e = refl
 from_filter p h v i f (x ∷ xs) e =
     let first : i + 0 ≡ i = omega arith in
     filter-append (λ (s : Slot). f (holds s.scope v)) (cond (p i) (x ∷ []) []) (slots_from p (suc i) xs)
-    ∙ ap (λ l. l ++ filter (λ (s : Slot). f (holds s.scope v)) (slots_from p (suc i) xs)) (one (p i) ∙ ap (λ b. cond (p i && f b) (x ∷ []) []) (sym (e 0 (omega arith)) ∙ ap h first))
-    ∙ ap (λ l. cond (p i && f (h i)) (x ∷ []) [] ++ l) (from_filter p h v (suc i) f xs (λ k l. ap h (let n : suc i + k ≡ i + suc k = omega arith in n) ∙ e (suc k) (omega arith)))
+    ∙ ap (λ l. l ++ filter (λ (s : Slot). f (holds s.scope v)) (slots_from p (suc i) xs)) (one (p i) (λ t. sym (e 0 (omega arith) (ap p first ∙ t)) ∙ ap h first))
+    ∙ ap (λ l. cond (p i && f (h i)) (x ∷ []) [] ++ l) (from_filter p h v (suc i) f xs (λ k l t. let n : suc i + k ≡ i + suc k = omega arith in ap h n ∙ e (suc k) (omega arith) (ap p (sym n) ∙ t)))
   where
-    one : (b : Bool) → filter (λ (s : Slot). f (holds s.scope v)) (cond b (x ∷ []) []) ≡ cond (b && f (holds x.scope v)) (x ∷ []) []
-    one true = refl
-    one false = refl
-
--- one slot more, and which nodes are held where
-pub holds_append : (xs : List Slot) (s : Slot) (v k : ℕ) → (slot_holds (xs ++ s ∷ []) v k ≡ true) ↔ ((slot_holds xs v k ≡ true) ⊎ ((k ≡ length xs) × (holds s.scope v ≡ true)))
-holds_append [] s v zero = ((λ h. inr (refl, h)), back)
-  where
-    back : ((false ≡ true) ⊎ ((zero ≡ zero) × (holds s.scope v ≡ true))) → holds s.scope v ≡ true
-    back (inl f) = absurd (let g = f in cc)
-    back (inr e) = e.1
-holds_append [] s v (suc k) = ((λ f. absurd (let g = f in cc)), back)
-  where
-    back : ((false ≡ true) ⊎ ((suc k ≡ zero) × (holds s.scope v ≡ true))) → false ≡ true
-    back (inl f) = f
-    back (inr e) = absurd (omega (arith, e.0))
-holds_append (x ∷ xs) s v zero = ((λ h. inl h), back)
-  where
-    back : ((holds x.scope v ≡ true) ⊎ ((zero ≡ suc (length xs)) × (holds s.scope v ≡ true))) → holds x.scope v ≡ true
-    back (inl h) = h
-    back (inr e) = absurd (omega (arith, e.0))
-holds_append (x ∷ xs) s v (suc k) = let h = holds_append xs s v k in ((λ t. on (h.0 t)), (λ e. h.1 (off e)))
-  where
-    on : ((slot_holds xs v k ≡ true) ⊎ ((k ≡ length xs) × (holds s.scope v ≡ true))) → ((slot_holds xs v k ≡ true) ⊎ ((suc k ≡ suc (length xs)) × (holds s.scope v ≡ true)))
-    on (inl h) = inl h
-    on (inr e) = inr (ap suc e.0, e.1)
-
-    off : ((slot_holds xs v k ≡ true) ⊎ ((suc k ≡ suc (length xs)) × (holds s.scope v ≡ true))) → ((slot_holds xs v k ≡ true) ⊎ ((k ≡ length xs) × (holds s.scope v ≡ true)))
-    off (inl h) = inl h
-    off (inr e) = inr (omega (arith, e.0), e.1)
+    one : (b : Bool) → (b ≡ true → holds x.scope v ≡ h i) → filter (λ (s : Slot). f (holds s.scope v)) (cond b (x ∷ []) []) ≡ cond (b && f (h i)) (x ∷ []) []
+    one true same = ap (λ t. cond (f t) (x ∷ []) []) (same refl)
+    one false same = refl
 
 -- ---- the steps of the code
 -- the slot at the next place is listed
@@ -111,38 +84,6 @@ pub gather_more : (p : ℕ → Bool) (n next place : ℕ) (slots found : List Sl
     → take n found ≡ slots_from p 0 (take next slots) → take (n + 1) (set found n (get_or slots place d)) ≡ slots_from p 0 (take (place + 1) slots)
 gather_more p n next place slots found d room a l h t so_far =
     take_more_set found n (get_or slots place d) room ∙ ap (λ ys. ys ++ get_or slots place d ∷ []) so_far ∙ sym (from_more p next place slots d a l h t)
-
--- one slot more is noted
-pub noted_more : (at new : List NodeSet) (xs : List Slot) (s : Slot) (place : ℕ) → length new ≡ length at → length xs ≡ place → Noted at xs
-    → ((v k : ℕ) (none : NodeSet) → v < length at → IsIn (slice_index_or new v none) k ↔ (IsIn (slice_index_or at v none) k ⊎ ((k ≡ place) × IsIn s.scope v)))
-    → Noted new (xs ++ s ∷ [])
-noted_more at new xs s place same is h e v k none within =
-    one_test (holds (slice_index_or new v none) k) (slot_holds (xs ++ s ∷ []) v k)
-    (λ t. (holds_append xs s v k).1 (forth ((e v k none l).0 t)))
-    (λ t. (e v k none l).1 (back ((holds_append xs s v k).0 t)))
-  where
-    l : v < length at
-    l = omega (arith, within, same)
-
-    forth : (IsIn (slice_index_or at v none) k ⊎ ((k ≡ place) × IsIn s.scope v)) → ((slot_holds xs v k ≡ true) ⊎ ((k ≡ length xs) × (holds s.scope v ≡ true)))
-    forth (inl m) = inl (sym (h v k none l) ∙ m)
-    forth (inr m) = inr (m.0 ∙ sym is, m.1)
-
-    back : ((slot_holds xs v k ≡ true) ⊎ ((k ≡ length xs) × (holds s.scope v ≡ true))) → (IsIn (slice_index_or at v none) k ⊎ ((k ≡ place) × IsIn s.scope v))
-    back (inl m) = inl (h v k none l ∙ m)
-    back (inr m) = inr (m.0 ∙ is, m.1)
-
-pub noted_next : (at new : List NodeSet) (slots : List Slot) (d : Slot) (place : ℕ) → length new ≡ length at → place < length slots → Noted at (take place slots)
-    → ((v k : ℕ) (none : NodeSet) → v < length at → IsIn (slice_index_or new v none) k ↔ (IsIn (slice_index_or at v none) k ⊎ ((k ≡ place) × IsIn (slice_index_or slots place d).scope v)))
-    → Noted new (take (place + 1) slots)
-noted_next at new slots d place same l h e v k none a =
-    noted_more at new (take place slots) (get_or slots place d) place same (length-take-le place slots (omega arith)) h e v k none a ∙ ap (λ xs. slot_holds xs v k) (sym (take_more slots place d l))
-
-pub noted_behind : (at new : List NodeSet) (slots : List Slot) (s : Slot) (place : ℕ) → length new ≡ length at → place < length slots → Noted at (take place slots)
-    → ((v k : ℕ) (none : NodeSet) → v < length at → IsIn (slice_index_or new v none) k ↔ (IsIn (slice_index_or at v none) k ⊎ ((k ≡ place) × IsIn s.scope v)))
-    → Noted new (take (place + 1) (set slots place s))
-noted_behind at new slots s place same l h e v k none a =
-    noted_more at new (take place slots) s place same (length-take-le place slots (omega arith)) h e v k none a ∙ ap (λ xs. slot_holds xs v k) (sym (take_more_set slots place s l))
 
 -- one place more is live
 pub within_more : (live new : NodeSet) (made : ℕ) → ((k : ℕ) → IsIn live k → k < made) → ((k : ℕ) → IsIn new k ↔ (IsIn live k ⊎ (k ≡ made))) → (k : ℕ) → IsIn new k → k < made + 1
@@ -182,11 +123,11 @@ both_pass true true f g = refl
 both_pass true false f g = g
 both_pass false b f g = f
 
-first_passes : (a b : Bool) → a && b ≡ true → a ≡ true
+pub first_passes : (a b : Bool) → a && b ≡ true → a ≡ true
 first_passes true b h = refl
 first_passes false b h = h
 
-second_passes : (a b : Bool) → a && b ≡ true → b ≡ true
+pub second_passes : (a b : Bool) → a && b ≡ true → b ≡ true
 second_passes true b h = h
 second_passes false b h = absurd (let g = h in cc)
 
@@ -194,14 +135,16 @@ not_passes : (b : Bool) → (b ≡ true → ⊥) → not b ≡ true
 not_passes true h = absurd (h refl)
 not_passes false h = refl
 
-passes_not : (b : Bool) → not b ≡ true → b ≡ true → ⊥
+pub passes_not : (b : Bool) → not b ≡ true → b ≡ true → ⊥
 passes_not true h k = absurd (let g = h in cc)
 passes_not false h k = absurd (let g = k in cc)
 
-from_nought : (k : ℕ) → 0 + k ≡ k
+pub from_nought : (k : ℕ) → 0 + k ≡ k
 from_nought k = omega arith
 
-module _ (at : List NodeSet) (live held : NodeSet) (made node : ℕ) (slots : List Slot) (small : node < length at) (noted : Noted at (take made slots))
+-- where the node's places tell the live slots that hold it
+module _ (at : List NodeSet) (live held : NodeSet) (made node : ℕ) (slots : List Slot)
+    (tells : (k : ℕ) (none : NodeSet) → IsIn live k → holds (slice_index_or at node none) k ≡ scope_at (take made slots) k node)
     (is : (k : ℕ) (none : NodeSet) → IsIn held k ↔ (IsIn live k × IsIn (slice_index_or at node none) k)) where
   abbrev here : ℕ → Bool
   here = holds (slice_index_or at node live)
@@ -212,7 +155,7 @@ module _ (at : List NodeSet) (live held : NodeSet) (made node : ℕ) (slots : Li
       from_same (holds held) (λ k. holds live k && here k) 0 (take made slots) (λ k a b. one_test (holds held k) (holds live k && here k)
       (λ t. both_pass (holds live k) (here k) ((is k live).0 t).0 ((is k live).0 t).1)
       (λ t. (is k live).1 (first_passes (holds live k) (here k) t, second_passes (holds live k) (here k) t)))
-      ∙ sym (from_filter (holds live) here node 0 (λ b. b) (take made slots) (λ k l. ap here (from_nought k) ∙ noted node k live small))
+      ∙ sym (from_filter (holds live) here node 0 (λ b. b) (take made slots) (λ k l t. ap here (from_nought k) ∙ tells k live (sym (ap (holds live) (from_nought k)) ∙ t)))
 
   -- and the others
   pub left_slots : (left : NodeSet) → ((k : ℕ) → IsIn left k ↔ (IsIn live k × (IsIn held k → ⊥))) → live_slots left made slots ≡ slots_without node (live_slots live made slots)
@@ -220,4 +163,4 @@ module _ (at : List NodeSet) (live held : NodeSet) (made node : ℕ) (slots : Li
       from_same (holds left) (λ k. holds live k && not (here k)) 0 (take made slots) (λ k a b. one_test (holds left k) (holds live k && not (here k))
       (λ t. both_pass (holds live k) (not (here k)) ((e k).0 t).0 (not_passes (here k) (λ h. ((e k).0 t).1 ((is k live).1 (((e k).0 t).0, h)))))
       (λ t. (e k).1 (first_passes (holds live k) (not (here k)) t, λ h. passes_not (here k) (second_passes (holds live k) (not (here k)) t) ((is k live).0 h).1)))
-      ∙ sym (from_filter (holds live) here node 0 not (take made slots) (λ k l. ap here (from_nought k) ∙ noted node k live small))
+      ∙ sym (from_filter (holds live) here node 0 not (take made slots) (λ k l t. ap here (from_nought k) ∙ tells k live (sym (ap (holds live) (from_nought k)) ∙ t)))

@@ -7,12 +7,14 @@ use node_sets::{MOST_NODES, NodeSet};
 use std::alloc::{AllocError, Global};
 use std::marker::Model;
 
-/// What runs write their places and slots into, one run after another. Each run clears what it reads, so there is nothing
+/// What runs write their places and slots into, one run after another. Each run sets what it reads, so there is nothing
 /// to know of what another has left.
 #[derive(Drop)]
 pub struct RunLists {
-    /// For each node the places of the slots that hold it.
+    /// For each node the places of the slots that are filed under it.
     pub(crate) at: Vec<NodeSet>,
+    /// For each node its first position among the steps, or how many these are where it has none.
+    pub(crate) ranks: Vec<usize>,
     /// The slots, each at its place.
     pub(crate) slots: Vec<Slot>,
     /// Those that a step joins, one behind the other.
@@ -28,12 +30,13 @@ impl Model for RunLists {
     ghost view = { λ _. tt };
 
     ghost invariant = { λ l. (vec_len l.at ≡ MOST_NODES)
+        × (vec_len l.ranks ≡ MOST_NODES)
         × (vec_len l.slots ≡ MOST_NODES)
         × (vec_len l.joined ≡ MOST_NODES) };
 }
 
 impl RunLists {
-    /// Lists for runs of any plan. They take 32 KB.
+    /// Lists for runs of any plan. They take 34 KB.
     ///
     /// # Errors
     ///
@@ -41,6 +44,7 @@ impl RunLists {
     pub fn reserve(alloc: Global) -> Result<RunLists, AllocError> {
         Ok(RunLists {
             at: vec![in alloc; NodeSet::empty(); MOST_NODES]?,
+            ranks: vec![in alloc; 0; MOST_NODES]?,
             slots: vec![in alloc; blank_slot(); MOST_NODES]?,
             joined: vec![in alloc; blank_slot(); MOST_NODES]?,
         })

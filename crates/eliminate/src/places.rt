@@ -1,9 +1,10 @@
-//! Slots at places, and for each node the places of those that hold it, so that a step looks at no other slot.
+//! Slots at places. Each is filed under the node of its scope that a run eliminates first, so that the step of a node
+//! looks at no other slot: by then no live slot holds a node that was eliminated before.
 
-ghost use Rattle.std.specs.Prelude.{◌≡◌, ◌+◌, ◌<◌, ◌≤◌, ◌↔◌, ℕ, [], ◌∷◌, ◌++◌, length, take};
+ghost use Rattle.std.specs.Prelude.{◌≡◌, ◌+◌, ◌<◌, ◌≤◌, ◌↔◌, ℕ, [], ◌∷◌, ◌++◌, length, take, All, MatchOption};
 ghost use Rattle.node_sets.specs.declared.sets.TheConstants.{MOST_NODES};
 ghost use Rattle.node_sets.specs.Sets.{holds, IsIn};
-ghost use Rattle.eliminate.specs.Places.{slots_from, slots_at, ArePlacesOf, IsBlank, IsBoard, Noted, NotesPlace};
+ghost use Rattle.eliminate.specs.Places.{slots_from, slots_at, AreApart, ArePlacesOf, Filed, FilesPlace, IsBlank, IsBoard, IsFirstOf, IsRanking, NoneBefore};
 
 use crate::lists::before;
 use factor_core::Slot;
@@ -14,6 +15,15 @@ use node_sets::{MOST_NODES, NodeSet};
 pub struct Places {
     pub live: NodeSet,
     pub made: usize,
+}
+
+/// The order in which a run eliminates nodes.
+#[derive(Clone, Copy)]
+pub struct Order<'a> {
+    /// For each node its first position among the steps, or how many these are where it has none.
+    pub ranks: &'a [usize],
+    /// How many steps there are.
+    pub count: usize,
 }
 
 /// Lists the slots at the places of the set, in the order of the places. Gives how many there are.
@@ -46,18 +56,52 @@ pub fn gather_live(slots: &[Slot], places: &Places, found: &mut [Slot]) -> usize
     gather(before(slots, places.made), &places.live, found)
 }
 
-/// Adds the place to those of each node of the scope, among the nodes that places are kept for.
-fn note_place(at: &mut [NodeSet], scope: &NodeSet, place: usize)
-    requires { place < MOST_NODES }
-    ensures { NotesPlace scope.now place at.old at.new }
+/// Writes for each node its first position among the steps, or how many these are where it has none.
+pub fn set_ranks(ranks: &mut [usize], steps: &[usize])
+    requires { All (λ v. v < length ranks.old) steps.now }
+    ensures { IsRanking ranks.new steps.now }
 {
+    for v in 0..ranks.len() {
+        ranks[v] = steps.len();
+    }
+    for i in (0..steps.len()).rev() {
+        ranks[steps[i]] = i;
+    }
+}
+
+/// The node of the scope that is eliminated first, where the steps have one of them.
+fn first_of(order: &Order, scope: &NodeSet) -> Option<usize>
+    ensures { MatchOption result
+        (NoneBefore order.now.ranks.now order.now.count order.now.count (holds scope.now))
+        (IsFirstOf order.now.ranks.now order.now.count (holds scope.now)) }
+{
+    let mut first = 0;
+    let mut least = order.count;
     let mut next = 0;
-    'nodes: while let Some(v) = scope.first_from(next) {
-        if v >= at.len() {
-            break;
+    'nodes: while let Some(v) = scope.first_between(next, order.ranks.len()) {
+        if order.ranks[v] < least {
+            first = v;
+            least = order.ranks[v];
         }
-        at[v].insert(place);
         next = v + 1;
+    }
+    if least < order.count {
+        Some(first)
+    } else {
+        None
+    }
+}
+
+/// Adds the place to those of the node of the scope that is eliminated first. One node is enough, as no slot lives on
+/// behind the step of its first node.
+fn file_place(at: &mut [NodeSet], order: &Order, scope: &NodeSet, place: usize)
+    requires same { length at.old ≡ length order.now.ranks.now }
+    requires apart { AreApart order.now.ranks.now order.now.count }
+    requires place { place < MOST_NODES }
+    ensures { FilesPlace order.now.ranks.now order.now.count (holds scope.now) place at.old at.new }
+{
+    if let Some(v) = first_of(order, scope) {
+        at[v].insert(place);
     }
 }
 
@@ -70,14 +114,16 @@ pub fn clear(at: &mut [NodeSet])
     }
 }
 
-/// Notes these slots, where none is noted.
-fn note_slots(at: &mut [NodeSet], slots: &[Slot])
+/// Files these slots, where none is filed.
+fn file_slots(at: &mut [NodeSet], order: &Order, slots: &[Slot])
+    requires same { length at.old ≡ length order.now.ranks.now }
+    requires apart { AreApart order.now.ranks.now order.now.count }
     requires blank { IsBlank at.old }
     requires slots { length slots.now ≤ MOST_NODES }
-    ensures { Noted at.new slots.now }
+    ensures { Filed order.now.ranks.now order.now.count at.new slots.now }
 {
     for place in 0..slots.len() {
-        note_place(at, &slots[place].scope, place);
+        file_place(at, order, &slots[place].scope, place);
     }
 }
 
@@ -93,16 +139,18 @@ fn numbers_below(count: usize) -> NodeSet
     set
 }
 
-/// The first `made` slots as live ones, where none is noted.
-pub fn all_live(slots: &[Slot], at: &mut [NodeSet], made: usize) -> Places
+/// The first `made` slots as live ones, where none is filed.
+pub fn all_live(slots: &[Slot], at: &mut [NodeSet], order: &Order, made: usize) -> Places
+    requires same { length at.old ≡ length order.now.ranks.now }
+    requires apart { AreApart order.now.ranks.now order.now.count }
     requires made { made ≤ length slots.now }
     requires few { made ≤ MOST_NODES }
     requires blank { IsBlank at.old }
     ensures made { result.made ≡ made }
-    ensures board { IsBoard at.new slots.now result.live result.made }
+    ensures board { IsBoard order.now.ranks.now order.now.count at.new slots.now result.live result.made }
     ensures live { slots_at result slots.now ≡ take made slots.now }
 {
-    note_slots(at, before(slots, made));
+    file_slots(at, order, before(slots, made));
     Places {
         live: numbers_below(made),
         made,
@@ -110,12 +158,18 @@ pub fn all_live(slots: &[Slot], at: &mut [NodeSet], made: usize) -> Places
 }
 
 /// Moves the live slots to the first places. It goes over another list.
-fn pack(slots: &mut [Slot], at: &mut [NodeSet], places: Places, spare: &mut [Slot]) -> Places
-    requires board { IsBoard at.old slots.old places.live places.made }
+fn pack(
+    slots: &mut [Slot],
+    at: &mut [NodeSet],
+    order: &Order,
+    places: Places,
+    spare: &mut [Slot],
+) -> Places
+    requires board { IsBoard order.now.ranks.now order.now.count at.old slots.old places.live places.made }
     requires made { places.made ≤ length slots.old }
     requires slots { length slots.old ≤ MOST_NODES }
     requires spare { length spare.old ≡ length slots.old }
-    ensures board { IsBoard at.new slots.new result.live result.made }
+    ensures board { IsBoard order.now.ranks.now order.now.count at.new slots.new result.live result.made }
     ensures made { result.made ≡ length (slots_at places slots.old) }
     ensures live { slots_at result slots.new ≡ slots_at places slots.old }
 {
@@ -124,45 +178,52 @@ fn pack(slots: &mut [Slot], at: &mut [NodeSet], places: Places, spare: &mut [Slo
         slots[i] = spare[i];
     }
     clear(at);
-    all_live(slots, at, count)
+    all_live(slots, at, order, count)
 }
 
 /// Puts the slot behind the live ones. Where no place is left, the live ones are moved to the first places before.
 pub fn put_slot(
     slots: &mut [Slot],
     at: &mut [NodeSet],
+    order: &Order,
     places: Places,
     spare: &mut [Slot],
     slot: &Slot,
 ) -> Places
-    requires board { IsBoard at.old slots.old places.live places.made }
+    requires board { IsBoard order.now.ranks.now order.now.count at.old slots.old places.live places.made }
     requires made { places.made ≤ length slots.old }
     requires few { length (slots_at places slots.old) < length slots.old }
     requires slots { length slots.old ≤ MOST_NODES }
     requires spare { length spare.old ≡ length slots.old }
-    ensures board { IsBoard at.new slots.new result.live result.made }
+    ensures board { IsBoard order.now.ranks.now order.now.count at.new slots.new result.live result.made }
     ensures made { result.made ≤ length slots.old }
     ensures live { slots_at result slots.new ≡ slots_at places slots.old ++ slot.now ∷ [] }
 {
     if places.made == slots.len() {
-        let packed = pack(slots, at, places, spare);
-        put_behind(slots, at, packed, slot)
+        let packed = pack(slots, at, order, places, spare);
+        put_behind(slots, at, order, packed, slot)
     } else {
-        put_behind(slots, at, places, slot)
+        put_behind(slots, at, order, places, slot)
     }
 }
 
 /// Puts the slot behind the live ones, at the next place.
-fn put_behind(slots: &mut [Slot], at: &mut [NodeSet], places: Places, slot: &Slot) -> Places
-    requires board { IsBoard at.old slots.old places.live places.made }
+fn put_behind(
+    slots: &mut [Slot],
+    at: &mut [NodeSet],
+    order: &Order,
+    places: Places,
+    slot: &Slot,
+) -> Places
+    requires board { IsBoard order.now.ranks.now order.now.count at.old slots.old places.live places.made }
     requires made { places.made < length slots.old }
     requires slots { length slots.old ≤ MOST_NODES }
-    ensures board { IsBoard at.new slots.new result.live result.made }
+    ensures board { IsBoard order.now.ranks.now order.now.count at.new slots.new result.live result.made }
     ensures made { result.made ≡ places.made + 1 }
     ensures live { slots_at result slots.new ≡ slots_at places slots.old ++ slot.now ∷ [] }
 {
     slots[places.made] = *slot;
-    note_place(at, &slot.scope, places.made);
+    file_place(at, order, &slot.scope, places.made);
     let mut live = places.live;
     live.insert(places.made);
     Places {
@@ -171,7 +232,7 @@ fn put_behind(slots: &mut [Slot], at: &mut [NodeSet], places: Places, slot: &Slo
     }
 }
 
-/// The live slots that hold the node, as places.
+/// The live slots that are filed under the node, as places.
 pub fn places_of(at: &[NodeSet], places: &Places, node: usize) -> NodeSet
     requires { node < length at.now }
     ensures { ArePlacesOf at.now places.now node result }

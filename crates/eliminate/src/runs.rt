@@ -6,12 +6,14 @@ ghost use Rattle.maid_model.specs.Profiles.{IsProfile};
 ghost use Rattle.node_sets.specs.declared.sets.TheConstants.{MOST_NODES};
 ghost use Rattle.size_precheck.specs.Sizes.{CanBePlanned, IsMade};
 ghost use Rattle.eliminate.specs.Results.{plan_total, SumsPlanIn};
-ghost use Rattle.eliminate.specs.Places.{IsBlank, IsBoard};
+ghost use Rattle.eliminate.specs.Places.{IsBlank, IsBoard, IsRanking, TellsHolders};
 ghost use Rattle.eliminate.specs.Steps.{first_nodes, CanJoinLive, Joins};
 
 use crate::firsts::{Play, first_tables};
 use crate::lists::{RunLists, before};
-use crate::places::{Places, all_live, clear, gather, gather_live, places_of, put_slot};
+use crate::places::{
+    Order, Places, all_live, clear, gather, gather_live, places_of, put_slot, set_ranks,
+};
 use cell_rings::Cell;
 use factor_core::{Slot, Workspace};
 use maid_model::{Diagram, Profile};
@@ -31,17 +33,19 @@ pub fn eliminate<C: Cell>(
     play: &Play,
     slots: &mut [Slot],
     at: &mut [NodeSet],
+    order: &Order,
     joined: &mut [Slot],
     places: Places,
     node: usize,
 ) -> Places
-    requires board { IsBoard at.old slots.old places.live places.made }
+    requires board { IsBoard order.now.ranks.now order.now.count at.old slots.old places.live places.made }
     requires made { places.made ≤ length slots.old }
     requires slots { length slots.old ≤ MOST_NODES }
     requires joined { length joined.old ≡ length slots.old }
     requires node { node < length at.old }
+    requires held { TellsHolders at.old places slots.old node }
     requires join { CanJoinLive C.ring play.now work.old places slots.old node }
-    ensures board { IsBoard at.new slots.new result.live result.made }
+    ensures board { IsBoard order.now.ranks.now order.now.count at.new slots.new result.live result.made }
     ensures made { result.made ≤ length slots.old }
     ensures step { Joins C.ring play.now work.old work.new places slots.old result slots.new node }
 {
@@ -52,7 +56,7 @@ pub fn eliminate<C: Cell>(
         live: places.live.difference(&held),
         made: places.made,
     };
-    put_slot(slots, at, left, joined, &slot)
+    put_slot(slots, at, order, left, joined, &slot)
 }
 
 /// The run of the plan with these lists to write its places and slots into. No step leaves more slots than it found.
@@ -61,12 +65,16 @@ fn run_with<C: Cell>(
     plan: &Plan,
     diagram: &Diagram,
     profile: &Profile,
+    order: &Order,
     at: &mut [NodeSet],
     slots: &mut [Slot],
     joined: &mut [Slot],
 ) -> Slot
     requires nodes { length diagram.now.nodes ≤ length at.old }
     requires blank { IsBlank at.old }
+    requires same { length at.old ≡ length order.now.ranks.now }
+    requires ranking { IsRanking order.now.ranks.now plan.now.steps }
+    requires count { order.now.count ≡ length plan.now.steps }
     requires tables { length (first_nodes diagram.now.nodes plan.now.plan) ≤ length slots.old }
     requires slots { length slots.old ≤ MOST_NODES }
     requires joined { length joined.old ≡ length slots.old }
@@ -80,25 +88,27 @@ fn run_with<C: Cell>(
 {
     let play = Play { diagram, profile };
     let count = first_tables(work, plan, &play, slots);
-    let mut places = all_live(slots, at, count);
+    let mut places = all_live(slots, at, order, count);
     for node in plan.steps() {
-        places = eliminate(work, &play, slots, at, joined, places, *node);
+        places = eliminate(work, &play, slots, at, order, joined, places, *node);
     }
     let count = gather_live(slots, &places, joined);
     work.product(diagram, before(joined, count))
 }
 
-/// The run of the plan with lists for any number of nodes, of which it clears the places of those that there are.
+/// The run of the plan with lists for any number of nodes. Of the nodes that there are it clears the places and sets the ranks.
 fn run_cleared<C: Cell>(
     work: &mut Workspace<C>,
     plan: &Plan,
     diagram: &Diagram,
     profile: &Profile,
     at: &mut [NodeSet],
+    ranks: &mut [usize],
     slots: &mut [Slot],
     joined: &mut [Slot],
 ) -> Slot
     requires at { length at.old ≡ MOST_NODES }
+    requires ranks { length ranks.old ≡ MOST_NODES }
     requires slots { length slots.old ≡ MOST_NODES }
     requires joined { length joined.old ≡ MOST_NODES }
     requires asked { CanBePlanned diagram.now.nodes plan.now.plan }
@@ -111,7 +121,13 @@ fn run_cleared<C: Cell>(
 {
     let (at, _) = at.split_at_mut(diagram.count());
     clear(at);
-    run_with(work, plan, diagram, profile, at, slots, joined)
+    let (ranks, _) = ranks.split_at_mut(diagram.count());
+    set_ranks(ranks, plan.steps());
+    let order = Order {
+        ranks,
+        count: plan.steps().len(),
+    };
+    run_with(work, plan, diagram, profile, &order, at, slots, joined)
 }
 
 /// Runs the plan: makes its first tables, eliminates its nodes in their order, and multiplies the tables that are left
@@ -140,6 +156,7 @@ pub fn run_plan<C: Cell>(
         diagram,
         profile,
         lists.at.as_mut_slice(),
+        lists.ranks.as_mut_slice(),
         lists.slots.as_mut_slice(),
         lists.joined.as_mut_slice(),
     )

@@ -8,14 +8,14 @@ ghost use Rattle.node_sets.specs.Sets.{IsIn};
 ghost use Rattle.factor_core.specs.Operations.{NumbersFit};
 ghost use Rattle.factor_core.specs.Slots.{IsLiveSlot, ProductOfFits, AppendsProduct};
 ghost use Rattle.eliminate.specs.Limits.{scopes_at, live_scopes, IsFirstScope, ListsOrNone, SpendsStep, SpendsProduct, IsProductTooMuch};
-ghost use Rattle.eliminate.specs.Places.{slots_at, IsBlank, IsBoard};
+ghost use Rattle.eliminate.specs.Places.{slots_at, IsBlank, IsRanking, TellsHolders};
 ghost use Rattle.eliminate.specs.Steps.{NumbersFitIn};
 ghost use Rattle.eliminate.specs.Results.{Grows, FindTablesIn, NoneIffTooMuch, SumsFitIn, SumsIfSome};
 
 use crate::counts::{Limits, count_cells, spend};
 use crate::firsts::{Play, put_table};
 use crate::lists::{RunLists, before};
-use crate::places::{Places, all_live, clear, gather, gather_live, places_of};
+use crate::places::{Order, Places, all_live, clear, gather, gather_live, places_of, set_ranks};
 use crate::runs::eliminate;
 use cell_rings::Cell;
 use factor_core::{Slot, Workspace, united_scope};
@@ -75,11 +75,12 @@ fn spend_on_step(
     node: usize,
     left: Limits,
 ) -> Option<Limits>
-    requires board { IsBoard at.now slots.now places.now.live places.now.made }
+    requires within { (k : ℕ) → IsIn places.now.live k → k < places.now.made }
     requires made { places.now.made ≤ length slots.now }
     requires slots { length slots.now ≤ MOST_NODES }
     requires joined { length joined.old ≡ length slots.now }
     requires node { (node < length at.now) × (node < MOST_NODES) }
+    requires held { TellsHolders at.now places.now slots.now node }
     ensures { SpendsStep diagram.now.nodes node (live_scopes places.now slots.now) left result }
 {
     let held = places_of(at, places, node);
@@ -138,12 +139,16 @@ fn sum_with<C: Cell>(
     nodes: &[usize],
     steps: &[usize],
     limits: Limits,
+    order: &Order,
     at: &mut [NodeSet],
     slots: &mut [Slot],
     joined: &mut [Slot],
 ) -> Option<Slot>
     requires at { length diagram.now.nodes ≤ length at.old }
     requires blank { IsBlank at.old }
+    requires same { length at.old ≡ length order.now.ranks.now }
+    requires ranking { IsRanking order.now.ranks.now steps.now }
+    requires count { order.now.count ≡ length steps.now }
     requires tables { length nodes.now ≤ length slots.old }
     requires slots { length slots.old ≤ MOST_NODES }
     requires joined { length joined.old ≡ length slots.old }
@@ -162,15 +167,15 @@ fn sum_with<C: Cell>(
     let _count = diagram.count();
     let play = Play { diagram, profile };
     let mut left = list_tables(work, &play, nodes, slots, limits)?;
-    let mut places = all_live(slots, at, nodes.len());
+    let mut places = all_live(slots, at, order, nodes.len());
     for node in steps {
         left = spend_on_step(diagram, slots, at, joined, &places, *node, left)?;
-        places = eliminate(work, &play, slots, at, joined, places, *node);
+        places = eliminate(work, &play, slots, at, order, joined, places, *node);
     }
     multiply_live(work, diagram, slots, joined, &places, left)
 }
 
-/// The sum with lists for any number of nodes, of which it clears the places of those that there are.
+/// The sum with lists for any number of nodes. Of the nodes that there are it clears the places and sets the ranks.
 fn sum_cleared<C: Cell>(
     work: &mut Workspace<C>,
     diagram: &Diagram,
@@ -179,10 +184,12 @@ fn sum_cleared<C: Cell>(
     steps: &[usize],
     limits: Limits,
     at: &mut [NodeSet],
+    ranks: &mut [usize],
     slots: &mut [Slot],
     joined: &mut [Slot],
 ) -> Option<Slot>
     requires at { length at.old ≡ MOST_NODES }
+    requires ranks { length ranks.old ≡ MOST_NODES }
     requires slots { length slots.old ≡ MOST_NODES }
     requires joined { length joined.old ≡ MOST_NODES }
     requires profile { IsProfile diagram.now.nodes profile.now }
@@ -200,8 +207,14 @@ fn sum_cleared<C: Cell>(
 {
     let (at, _) = at.split_at_mut(diagram.count());
     clear(at);
+    let (ranks, _) = ranks.split_at_mut(diagram.count());
+    set_ranks(ranks, steps);
+    let order = Order {
+        ranks,
+        count: steps.len(),
+    };
     sum_with(
-        work, diagram, profile, nodes, steps, limits, at, slots, joined,
+        work, diagram, profile, nodes, steps, limits, &order, at, slots, joined,
     )
 }
 
@@ -239,6 +252,7 @@ pub fn sum_tables<C: Cell>(
         steps,
         limits,
         lists.at.as_mut_slice(),
+        lists.ranks.as_mut_slice(),
         lists.slots.as_mut_slice(),
         lists.joined.as_mut_slice(),
     )

@@ -1,4 +1,4 @@
-use Rattle.std.proofs.Common.{◌≡◌, ◌∙◌, ◌*◌, ◌<◌, ◌≤◌, length, get_or, ap, arith}
+use Rattle.std.proofs.Common.{◌≡◌, ◌*◌, ◌<◌, ◌≤◌, length, get_or, ap, arith}
 use Rattle.maid_model.specs.Bounds.{stopped}
 use Rattle.maid_model.specs.Nodes.{counts_of}
 use Rattle.maid_model.specs.Views.{NodeView}

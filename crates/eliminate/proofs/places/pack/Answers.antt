@@ -30,6 +30,12 @@ all_live-requires-clause-made c = subst (λ n. c.gather_live-count.result ≤ n)
 pub all_live-requires-clause-few : goal.all_live-requires-clause-few
 all_live-requires-clause-few c = within_two c.gather_live-count.result (length c.args.slots.now) MOST_NODES c.gather_live-count.ensures.few c.requires.slots
 
+pub all_live-requires-clause-same : goal.all_live-requires-clause-same
+all_live-requires-clause-same c = c.clear.auto.at ∙ c.requires.board.same
+
+pub all_live-requires-clause-apart : goal.all_live-requires-clause-apart
+all_live-requires-clause-apart c = c.requires.board.apart
+
 pub all_live-requires-clause-blank : goal.all_live-requires-clause-blank
 all_live-requires-clause-blank c = c.clear.ensures
 

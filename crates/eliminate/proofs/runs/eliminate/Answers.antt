@@ -21,7 +21,7 @@ left_few live made node slots within some left e =
 
 -- the slots that were gathered
 found_is : (g : Over) (c : goal.After-before-3 g) → c.before-3.result.now ≡ slots_with c.args.node (live_slots c.args.places.live c.args.places.made c.args.slots.now)
-found_is g c = gathered_with c.requires.board c.args.node c.places_of-held.result c.requires.node c.places_of-held.ensures c.before-2.ensures c.gather-count.ensures.list c.before-3.ensures
+found_is g c = gathered_with c.args.at.now c.args.places.live c.places_of-held.result c.args.places.made c.args.node c.args.slots.now c.requires.held c.places_of-held.ensures c.before-2.ensures c.gather-count.ensures.list c.before-3.ensures
 
 pub places_of-held-requires : goal.places_of-held-requires
 places_of-held-requires g c = c.requires.node
@@ -68,7 +68,7 @@ join_out-slot-requires-clause-room g c =
     subst (λ (l : List Slot). HasSpareForJoin g.C.Cell.ring c.args.play.now.diagram.now.nodes c.args.node l c.args.work.now) (sym (found_is g c)) c.requires.join.room
 
 pub put_slot-requires-clause-board : goal.put_slot-requires-clause-board
-put_slot-requires-clause-board g c = record { noted = c.requires.board.noted; within = λ k t. c.requires.board.within k ((c.difference.ensures k).0 t).0 }
+put_slot-requires-clause-board g c = record { same = c.requires.board.same; apart = c.requires.board.apart; filed = c.requires.board.filed; within = λ k t. c.requires.board.within k ((c.difference.ensures k).0 t).0 }
 
 pub put_slot-requires-clause-made : goal.put_slot-requires-clause-made
 put_slot-requires-clause-made g c = c.requires.made
@@ -76,7 +76,7 @@ put_slot-requires-clause-made g c = c.requires.made
 pub put_slot-requires-clause-few : goal.put_slot-requires-clause-few
 put_slot-requires-clause-few g c =
     left_few c.args.places.live c.args.places.made c.args.node c.args.slots.now c.requires.made c.requires.join.some (live_slots c.difference.result c.args.places.made c.args.slots.now)
-    (left_slots c.args.at.now c.args.places.live c.places_of-held.result c.args.places.made c.args.node c.args.slots.now c.requires.node c.requires.board.noted c.places_of-held.ensures c.difference.result c.difference.ensures)
+    (left_slots c.args.at.now c.args.places.live c.places_of-held.result c.args.places.made c.args.node c.args.slots.now c.requires.held c.places_of-held.ensures c.difference.result c.difference.ensures)
 
 pub put_slot-requires-clause-slots : goal.put_slot-requires-clause-slots
 put_slot-requires-clause-slots g c = c.requires.slots
@@ -92,9 +92,9 @@ returns-clause-made g c = c.put_slot.ensures.made
 
 pub returns-clause-step : goal.returns-clause-step
 returns-clause-step g c =
-    let is = gathered_with c.requires.board c.args.node c.places_of-held.result c.requires.node c.places_of-held.ensures c.before-2.ensures c.gather-count.ensures.list c.before-3.ensures in
+    let is = gathered_with c.args.at.now c.args.places.live c.places_of-held.result c.args.places.made c.args.node c.args.slots.now c.requires.held c.places_of-held.ensures c.before-2.ensures c.gather-count.ensures.list c.before-3.ensures in
     record {
       slot = c.join_out-slot.result;
       appends = subst (λ (l : List Slot). AppendsJoin g.C.Cell.ring c.args.play.now.diagram.now.nodes c.args.node l c.args.work.now c.join_out-slot.new.self c.join_out-slot.result) is c.join_out-slot.ensures;
-      slots = c.put_slot.ensures.live ∙ ap (λ (s : List Slot). s ++ c.join_out-slot.result ∷ []) (left_slots c.args.at.now c.args.places.live c.places_of-held.result c.args.places.made c.args.node c.args.slots.now c.requires.node c.requires.board.noted c.places_of-held.ensures c.difference.result c.difference.ensures);
+      slots = c.put_slot.ensures.live ∙ ap (λ (s : List Slot). s ++ c.join_out-slot.result ∷ []) (left_slots c.args.at.now c.args.places.live c.places_of-held.result c.args.places.made c.args.node c.args.slots.now c.requires.held c.places_of-held.ensures c.difference.result c.difference.ensures);
     }

@@ -5,9 +5,10 @@ use Rattle.node_sets.specs.declared.sets.TheConstants.{MOST_NODES}
 use Rattle.factor_core.specs.declared.slots.Slot.{Slot}
 use Rattle.factor_core.specs.Operations.{cells_by}
 use Rattle.factor_core.specs.Slots.{IsLiveSlot, ProductOfFits, HasSpareForProduct, AppendsProduct}
-use Rattle.eliminate.specs.Places.{live_slots}
+use Rattle.eliminate.specs.Places.{live_slots, TellsHolders}
 use Rattle.eliminate.specs.Steps.{first_nodes, CanJoinOut, GiveWay, Lists}
 use Rattle.eliminate.proofs.Bounds.{below_three, within_two, within_same, at_most}
+use Rattle.eliminate.proofs.Filing.{apart, none_over, tells_holders, later_on}
 use Rattle.eliminate.proofs.Ruled.{step_known}
 use Rattle.eliminate.proofs.Whole.{CanRun, firsts_room, started, next_step, no_step, run_joins, run_on, last_fits, last_room, ended}
 use Rattle.eliminate.proofs.runs.run_with.Goals as goal
@@ -38,6 +39,12 @@ all_live-places-requires-clause-made g c = subst (λ n. c.first_tables-count.res
 pub all_live-places-requires-clause-few : goal.all_live-places-requires-clause-few
 all_live-places-requires-clause-few g c = within_two c.first_tables-count.result (length c.args.slots.now) MOST_NODES c.first_tables-count.ensures.few c.requires.slots
 
+pub all_live-places-requires-clause-same : goal.all_live-places-requires-clause-same
+all_live-places-requires-clause-same g c = c.requires.same
+
+pub all_live-places-requires-clause-apart : goal.all_live-places-requires-clause-apart
+all_live-places-requires-clause-apart g c = apart c.requires.ranking c.requires.count
+
 pub all_live-places-requires-clause-blank : goal.all_live-places-requires-clause-blank
 all_live-places-requires-clause-blank g c = c.requires.blank
 
@@ -61,6 +68,7 @@ loop-node-init g c =
       between = started run (subst (λ (l : List Slot). Lists cells c.args.diagram.now.nodes c.args.profile.now c.args.work.now c.first_tables-count.new.work l [] (first_nodes c.args.diagram.now.nodes c.args.plan.now.plan))
           (sym c.all_live-places.ensures.live) c.first_tables-count.ensures.lists);
       board = c.all_live-places.ensures.board;
+      later = none_over c.requires.ranking c.requires.count (live_slots c.all_live-places.result.live c.all_live-places.result.made c.first_tables-count.new.live);
       made = within_same c.first_tables-count.result (length c.args.slots.now) (length c.first_tables-count.new.live) c.all_live-places.result.made c.all_live-places.ensures.made c.first_tables-count.ensures.few c.first_tables-count.auto.live;
       slots = c.first_tables-count.auto.live;
       at = c.all_live-places.auto.at;
@@ -88,6 +96,12 @@ eliminate-places-requires-clause-node g c =
     let known = step_known c.args.diagram.now.nodes c.args.plan.now.plan c.args.plan.now.steps c.requires.made.order (slice_index c.args.plan.now.steps c.loop-node.node-index) (c.loop-node.node-index, within, get_or_default c.args.plan.now.steps c.loop-node.node-index _ 0 within) in
     subst (λ (l : List ℕ). slice_index l c.loop-node.node-index < length c.loop-node.at) (sym c.steps-node-items.ensures) (below_three (slice_index c.args.plan.now.steps c.loop-node.node-index) (length c.args.diagram.now.nodes) (length c.args.at.now) (length c.loop-node.at) known c.requires.nodes c.loop-node.invariant.at)
 
+pub eliminate-places-requires-clause-held : goal.eliminate-places-requires-clause-held
+eliminate-places-requires-clause-held g c =
+    let within = subst (λ (l : List ℕ). c.loop-node.node-index < length l) c.steps-node-items.ensures c.loop-node-test.true in
+    subst (λ (l : List ℕ). TellsHolders c.loop-node.at c.loop-node.places c.loop-node.slots (slice_index l c.loop-node.node-index)) (sym c.steps-node-items.ensures)
+    (tells_holders c.requires.ranking c.requires.count within c.loop-node.invariant.board c.loop-node.invariant.made (subst (λ (l : List ℕ). slice_index l c.loop-node.node-index < length c.loop-node.at) c.steps-node-items.ensures (eliminate-places-requires-clause-node g c)) c.loop-node.invariant.later)
+
 pub eliminate-places-requires-clause-join : goal.eliminate-places-requires-clause-join
 eliminate-places-requires-clause-join g c =
     let within = subst (λ (l : List ℕ). c.loop-node.node-index < length l) c.steps-node-items.ensures c.loop-node-test.true in
@@ -102,6 +116,9 @@ loop-node-preserved g c =
           (subst (λ (l : List ℕ). GiveWay g.C.Cell.ring c.args.diagram.now.nodes c.loop-node.work c.eliminate-places.new.work (live_slots c.loop-node.places.live c.loop-node.places.made c.loop-node.slots) (live_slots c.eliminate-places.result.live c.eliminate-places.result.made c.eliminate-places.new.slots) (slice_index l c.loop-node.node-index))
           c.steps-node-items.ensures c.eliminate-places.ensures.step);
       board = c.eliminate-places.ensures.board;
+      later = later_on c.requires.ranking c.requires.count within (live_slots c.loop-node.places.live c.loop-node.places.made c.loop-node.slots) c.loop-node.invariant.later
+          (subst (λ (l : List ℕ). GiveWay g.C.Cell.ring c.args.diagram.now.nodes c.loop-node.work c.eliminate-places.new.work (live_slots c.loop-node.places.live c.loop-node.places.made c.loop-node.slots) (live_slots c.eliminate-places.result.live c.eliminate-places.result.made c.eliminate-places.new.slots) (slice_index l c.loop-node.node-index))
+          c.steps-node-items.ensures c.eliminate-places.ensures.step);
       made = subst (λ n. c.eliminate-places.result.made ≤ n) (sym c.eliminate-places.auto.slots) c.eliminate-places.ensures.made;
       slots = c.eliminate-places.auto.slots ∙ c.loop-node.invariant.slots;
       at = c.eliminate-places.auto.at ∙ c.loop-node.invariant.at;

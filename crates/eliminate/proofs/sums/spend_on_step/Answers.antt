@@ -12,7 +12,7 @@ pub gather-count-requires-clause-within : goal.gather-count-requires-clause-with
 gather-count-requires-clause-within c k t =
     let places = c.args.places.now in
     let within : places.made ≤ length c.args.slots.now = omega (arith, c.requires.made, c.requires.slots) in
-    omega (arith, c.requires.board.within k ((c.places_of-held.ensures k places.live).0 t).0, ap length c.before-2.ensures, length-take-le places.made c.args.slots.now within)
+    omega (arith, c.requires.within k ((c.places_of-held.ensures k places.live).0 t).0, ap length c.before-2.ensures, length-take-le places.made c.args.slots.now within)
 
 pub returns : goal.returns
 returns c =
@@ -20,7 +20,7 @@ returns c =
     let places = c.args.places.now in
     let slots = live_slots places.live places.made c.args.slots.now in
     let list = c.before-3.result.now in
-    let is = gathered_with c.requires.board c.args.node c.places_of-held.result c.requires.node.0 c.places_of-held.ensures c.before-2.ensures c.gather-count.ensures.list c.before-3.ensures in
+    let is = gathered_with c.args.at.now places.live c.places_of-held.result places.made c.args.node c.args.slots.now c.requires.held c.places_of-held.ensures c.before-2.ensures c.gather-count.ensures.list c.before-3.ensures in
     let count : length list ≡ c.gather-count.result = omega (arith, ap length c.before-3.ensures, length-take-le c.gather-count.result c.gather-count.new.found (omega (arith, c.gather-count.ensures.few, ap length c.before-2.ensures, length-take-le places.made c.args.slots.now (omega (arith, c.requires.made, c.requires.slots)), c.gather-count.auto.found, c.requires.joined, c.requires.made))) in
     let cells : c.count_cells.result ≡ step_cells nodes c.args.node (scopes_at slots) = c.count_cells.ensures ∙ cells_of_step nodes c.args.node slots list is c.united_scope-scope.result c.united_scope-scope.ensures c.remove.new.self c.remove.ensures in
     let work : c.count_cells-2.result * c.gather-count.result ≡ step_work nodes c.args.node (scopes_at slots) =

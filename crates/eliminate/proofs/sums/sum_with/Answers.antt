@@ -4,6 +4,8 @@ use Rattle.factor_core.specs.declared.slots.Slot.{Slot}
 use Rattle.factor_core.specs.Operations.{cells_by}
 use Rattle.eliminate.specs.Limits.{ListsWithin}
 use Rattle.eliminate.proofs.Bounds.{below_two, below_three, within_two, within_same}
+use Rattle.eliminate.specs.Places.{live_slots}
+use Rattle.eliminate.proofs.Filing.{apart, none_over, tells_holders, later_on}
 use Rattle.eliminate.proofs.Growing.{grows_on}
 use Rattle.eliminate.proofs.Multiplying.{each_some}
 use Rattle.eliminate.proofs.Within.{first_too_much, sum_starts, next_step, no_step, has_grown, left_small, left_room, step_refused, step_joins, step_on, product_too_much, product_fits, product_sums}
@@ -46,6 +48,12 @@ all_live-places-requires-clause-made g c = subst (λ n. length c.args.nodes.now 
 pub all_live-places-requires-clause-few : goal.all_live-places-requires-clause-few
 all_live-places-requires-clause-few g c = within_two (length c.args.nodes.now) (length c.args.slots.now) MOST_NODES c.requires.tables c.requires.slots
 
+pub all_live-places-requires-clause-same : goal.all_live-places-requires-clause-same
+all_live-places-requires-clause-same g c = c.requires.same
+
+pub all_live-places-requires-clause-apart : goal.all_live-places-requires-clause-apart
+all_live-places-requires-clause-apart g c = apart c.requires.ranking c.requires.count
+
 pub all_live-places-requires-clause-blank : goal.all_live-places-requires-clause-blank
 all_live-places-requires-clause-blank g c = c.requires.blank
 
@@ -55,6 +63,7 @@ loop-node-init g c = record {
       (subst (λ (l : List Slot). ListsWithin (cells_by g.C.Cell.ring g.C.Cell.of_weight g.C.Cell.of_value) c.args.diagram.now.nodes c.args.profile.now c.args.work.now c.list_tables.new.work l [] c.args.nodes.now c.args.limits c.in_ok-left.left)
       (sym c.all_live-places.ensures.live) c.in_ok-left.ensures.lists);
   board = c.all_live-places.ensures.board;
+  later = none_over c.requires.ranking c.requires.count (live_slots c.all_live-places.result.live c.all_live-places.result.made c.list_tables.new.live);
   made = within_same (length c.args.nodes.now) (length c.args.slots.now) (length c.list_tables.new.live) c.all_live-places.result.made c.all_live-places.ensures.made c.requires.tables c.list_tables.auto.live;
   slots = c.list_tables.auto.live;
   at = c.all_live-places.auto.at;
@@ -64,8 +73,8 @@ loop-node-init g c = record {
 pub bounds-steps-node-index : goal.bounds-steps-node-index
 bounds-steps-node-index g c = c.loop-node-test.true
 
-pub spend_on_step-requires-clause-board : goal.spend_on_step-requires-clause-board
-spend_on_step-requires-clause-board g c = c.loop-node.invariant.board
+pub spend_on_step-requires-clause-within : goal.spend_on_step-requires-clause-within
+spend_on_step-requires-clause-within g c = c.loop-node.invariant.board.within
 
 pub spend_on_step-requires-clause-made : goal.spend_on_step-requires-clause-made
 spend_on_step-requires-clause-made g c = c.loop-node.invariant.made
@@ -81,6 +90,10 @@ spend_on_step-requires-clause-node g c =
     let node = get_or c.args.steps.now c.loop-node.node-index 0 in
     let known : node < length c.args.diagram.now.nodes = c.requires.steps c.loop-node.node-index 0 c.loop-node-test.true in
     (below_three node (length c.args.diagram.now.nodes) (length c.args.at.now) (length c.loop-node.at) known c.requires.at c.loop-node.invariant.at, below_two node (length c.args.diagram.now.nodes) MOST_NODES known c.count-count.ensures.diagram.limits.nodes)
+
+pub spend_on_step-requires-clause-held : goal.spend_on_step-requires-clause-held
+spend_on_step-requires-clause-held g c =
+    tells_holders c.requires.ranking c.requires.count c.loop-node-test.true c.loop-node.invariant.board c.loop-node.invariant.made (spend_on_step-requires-clause-node g c).0 c.loop-node.invariant.later
 
 pub returns-in_err-left-2-clause-some : goal.returns-in_err-left-2-clause-some
 returns-in_err-left-2-clause-some g c = rw c.from_residual-in_err-left-2.ensures tt
@@ -111,6 +124,10 @@ eliminate-places-requires-clause-node g c =
     let known : node < length c.args.diagram.now.nodes = c.requires.steps c.loop-node.node-index 0 c.loop-node-test.true in
     below_three node (length c.args.diagram.now.nodes) (length c.args.at.now) (length c.loop-node.at) known c.requires.at c.loop-node.invariant.at
 
+pub eliminate-places-requires-clause-held : goal.eliminate-places-requires-clause-held
+eliminate-places-requires-clause-held g c =
+    tells_holders c.requires.ranking c.requires.count c.loop-node-test.true c.loop-node.invariant.board c.loop-node.invariant.made (eliminate-places-requires-clause-node g c) c.loop-node.invariant.later
+
 pub eliminate-places-requires-clause-join : goal.eliminate-places-requires-clause-join
 eliminate-places-requires-clause-join g c = step_joins g.met.C.Cell.laws (next_step c.loop-node.node-index c.loop-node.invariant.sum c.loop-node-test.true) c.requires.small c.requires.room c.in_ok-left-2.ensures
 
@@ -118,6 +135,7 @@ pub loop-node-preserved : goal.loop-node-preserved
 loop-node-preserved g c = record {
   sum = step_on g.met.C.Cell.laws (next_step c.loop-node.node-index c.loop-node.invariant.sum c.loop-node-test.true) c.requires.small c.requires.room c.in_ok-left-2.ensures c.eliminate-places.ensures.step;
   board = c.eliminate-places.ensures.board;
+  later = later_on c.requires.ranking c.requires.count c.loop-node-test.true (live_slots c.loop-node.places.live c.loop-node.places.made c.loop-node.slots) c.loop-node.invariant.later c.eliminate-places.ensures.step;
   made = subst (λ n. c.eliminate-places.result.made ≤ n) (sym c.eliminate-places.auto.slots) c.eliminate-places.ensures.made;
   slots = c.eliminate-places.auto.slots ∙ c.loop-node.invariant.slots;
   at = c.eliminate-places.auto.at ∙ c.loop-node.invariant.at;
