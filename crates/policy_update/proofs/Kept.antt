@@ -17,7 +17,7 @@ use Rattle.maid_model.specs.Views.{NodeView, DiagramView, RuleView, AnswerView}
 use Rattle.node_sets.specs.declared.sets.NodeSet.{NodeSet}
 use Rattle.rule_solver.specs.Totals.{HasTotals}
 use Rattle.size_precheck.specs.declared.decisions.DecisionPlans.{DecisionPlans}
-use Rattle.size_precheck.specs.Sizes.{ArePlansOf}
+use Rattle.size_precheck.specs.Decisions.{AreDecisionPlans}
 use Rattle.policy_update.specs.declared.keeping.Kept.{Kept}
 use Rattle.node_sets.specs.declared.sets.TheConstants.{MOST_NODES}
 use Rattle.policy_update.specs.Kept.{AreDecisionsAndScopes, IsKept, IsScopeOf}
@@ -38,7 +38,7 @@ pair_at R (x ∷ xs) (y ∷ ys) (suc k) d e z h = pair_at R xs ys k d e z.1 (ome
 
 module _ (nodes : List NodeView) (kept : Kept) (is : IsKept nodes kept) (i : ℕ) (within : i < length (decisions_of nodes)) where
   abbrev Planned : ℕ → DecisionPlans → Type 0
-  Planned d own = ArePlansOf nodes d own.rows own.goals.items
+  Planned d own = AreDecisionPlans nodes d own
 
   -- there are plans and a scope for each decision
   pub plans_within : i < length kept.plans.now

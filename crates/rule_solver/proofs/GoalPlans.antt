@@ -18,7 +18,7 @@ use Rattle.node_sets.specs.Sets.{IsIn}
 use Rattle.plan_sums.specs.Plans.{PlanView, gain_plan, row_plan, has, in_plan, plan_nodes}
 use Rattle.plan_sums.proofs.Filters.{has_member, has_yes}
 use Rattle.size_precheck.specs.Laws.{OneGreedyOrder}
-use Rattle.size_precheck.specs.Sizes.{ArePlansOf, SizedPlan, IsPlanned, goal_list}
+use Rattle.size_precheck.specs.Sizes.{ArePlansOfGoals, SizedPlan, IsPlanned, goal_list}
 use Rattle.rule_solver.specs.Rooms.{HasCellsAtMost, HasRoomForDecision}
 use Rattle.rule_solver.specs.Together.{goal_in, utility_of_plan}
 use Rattle.rule_solver.proofs.MadeRooms.{made_room, more_room}
@@ -125,18 +125,18 @@ module _ (nodes : List NodeView) (asked : PlanView) (made : SizedPlan) (planned 
       subst (λ (x : PlanView). (Contains x.keep v ⊎ Contains made.steps v) ↔ Contains (plan_nodes nodes x) v) (sym planned.made.plan) (member_in v, in_member v)
 
 -- ---- room for the plans of a decision
-module _ (nodes : List NodeView) (graph : IsGraph nodes) (d : ℕ) (is : IsDecision nodes d) (rows : SizedPlan) (goals : List SizedPlan) (kept : ArePlansOf nodes d rows goals) where
+module _ (nodes : List NodeView) (graph : IsGraph nodes) (d : ℕ) (is : IsDecision nodes d) (rows : SizedPlan) (goals : List SizedPlan) (of_rows : IsPlanned nodes (row_plan nodes d) rows) (of_goals : ArePlansOfGoals nodes d goals) where
   -- where the kept plans have at most so many cells, each plan has
   pub kept_room : OneGreedyOrder → (cells : ℕ) → rows.size.cells ≤ cells → All (λ (plan : SizedPlan). plan.size.cells ≤ cells) goals → HasRoomForDecision nodes d cells
   kept_room one cells first all = record {
-    rows = more_room nodes (row_plan nodes d) rows.size.cells cells first (made_room nodes (row_plan nodes d) rows one kept.of_rows.made);
+    rows = more_room nodes (row_plan nodes d) rows.size.cells cells first (made_room nodes (row_plan nodes d) rows one of_rows.made);
     goals = λ u goal.
         let place = index_of_goal nodes graph d is u goal in
         let plan : SizedPlan = get_or goals place.0 rows in
-        let long = goal_plans_long nodes d goals kept.of_goals in
+        let long = goal_plans_long nodes d goals of_goals in
         let within : place.0 < length goals = let l = place.1 in omega (arith, long, l) in
         let at : plan ≡ get_or goals place.0 plan = same_at goals place.0 rows plan within in
-        let made = (goal_plan_at nodes d goals kept.of_goals place.0 plan place.1 at).made in
+        let made = (goal_plan_at nodes d goals of_goals place.0 plan place.1 at).made in
         subst (λ x. HasCellsAtMost nodes (gain_plan nodes d x) cells) (get_or_default (goals_of nodes d) place.0 0 u place.1 ∙ place.2)
         (more_room nodes (gain_plan nodes d (slice_index (goals_of nodes d) place.0)) plan.size.cells cells (all place.0 rows within) (made_room nodes (gain_plan nodes d (slice_index (goals_of nodes d) place.0)) plan one made));
   }
@@ -147,10 +147,10 @@ module _ (nodes : List NodeView) (graph : IsGraph nodes) (d : ℕ) (is : IsDecis
   -- and where each plan has at most so many, the kept ones have
   pub room_kept : (n : ℕ) → HasRoomForDecision nodes d n → (rows.size.cells ≤ n) × All (λ (plan : SizedPlan). plan.size.cells ≤ n) goals
   room_kept n room = (
-    room.rows rows kept.of_rows.made,
+    room.rows rows of_rows.made,
     (λ k e h.
-        let long = goal_plans_long nodes d goals kept.of_goals in
+        let long = goal_plans_long nodes d goals of_goals in
         let inside : k < length (goals_of nodes d) = omega (arith, long, h) in
         let plan : SizedPlan = get_or goals k e in
-        room.goals (slice_index (goals_of nodes d) k) (goal_at nodes graph d is k inside) plan (goal_plan_at nodes d goals kept.of_goals k plan inside (get_or_default goals k e plan h)).made),
+        room.goals (slice_index (goals_of nodes d) k) (goal_at nodes graph d is k inside) plan (goal_plan_at nodes d goals of_goals k plan inside (get_or_default goals k e plan h)).made),
   )

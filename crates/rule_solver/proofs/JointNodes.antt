@@ -30,10 +30,10 @@ use Rattle.plan_sums.proofs.Filters.{filter_cong, filter_filter}
 use Rattle.joint_sums.specs.Joint.{IsJointOrder, joint_ruled, joint_summed, scope_nodes}
 use Rattle.joint_sums.proofs.PlanSteps.{summed_by_plans}
 use Rattle.joint_sums.proofs.ScopeNodes.{inside, no_utility, scope_nodes_are, node_within}
+use Rattle.size_precheck.specs.Decisions.{IsStepOf}
 use Rattle.size_precheck.specs.Sizes.{IsPlanned, SizedPlan, goal_list}
 use Rattle.scope_sums.proofs.Shares.{tested_product}
 use Rattle.rule_solver.specs.Sums.{IsSetting}
-use Rattle.rule_solver.specs.Together.{IsStepOf}
 use Rattle.rule_solver.specs.Totals.{product_in}
 use Rattle.rule_solver.proofs.GoalPlans.{goal_plan_at, goal_plans_long}
 use Rattle.rule_solver.proofs.Missing.{listed_product}
@@ -217,10 +217,3 @@ module _ (nodes : List NodeView) (graph : IsGraph nodes) (d : ℕ) (is : IsDecis
     once = once;
     all = λ v. ((λ c. (steps_are u goal v).0 ((all v).0 c)), (λ c. (all v).1 ((steps_are u goal v).1 c)));
   }
-
-  -- each is a node of the diagram
-  pub step_within : (v : ℕ) → IsStepOf plans v → v < length nodes
-  step_within v (plan, m, c) =
-      let at = plan_there plan m in
-      node_within nodes d v (among_filter (λ x. not (has (d ∷ parents_of nodes d) x)) v (scope_nodes nodes d)
-      (among_from_contains (joint_summed nodes d) v ((steps_are at.0 at.1 v).0 (plan, m, c)))).0

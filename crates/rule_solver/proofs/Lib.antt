@@ -13,7 +13,6 @@ mod GoalPlans
 mod JointLists
 mod JointNodes
 mod JointRuns
-mod Listing
 mod MadeRooms
 mod MassCells
 mod OwnOrder

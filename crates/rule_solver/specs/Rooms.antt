@@ -7,8 +7,8 @@ use Rattle.maid_model.specs.Relevance.{IsGoal}
 use Rattle.maid_model.specs.Views.{NodeView}
 use Rattle.plan_sums.specs.Plans.{PlanView, row_plan, gain_plan, worth_plan}
 use Rattle.factor_core.specs.Slots.{WorkspaceView}
+use Rattle.size_precheck.specs.declared.joint_orders.TheConstants.{MOST_PAIR_CELLS}
 use Rattle.size_precheck.specs.Sizes.{SizedPlan, IsMade}
-use Rattle.rule_solver.specs.declared.spaces.TheConstants.{MOST_PAIR_CELLS}
 use Rattle.rule_solver.specs.declared.spaces.Workspaces.{Workspaces}
 
 -- the plan has at most so many cells

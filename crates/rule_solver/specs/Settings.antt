@@ -8,7 +8,8 @@ use Rattle.maid_model.specs.Scopes.{goals_of, scope_of}
 use Rattle.plan_sums.specs.Plans.{PlanView, gain_plan, row_plan}
 use Rattle.scope_sums.specs.Missing.{missing_in, missing_in_without}
 use Rattle.size_precheck.specs.declared.decisions.DecisionPlans.{DecisionPlans}
-use Rattle.size_precheck.specs.Sizes.{ArePlansOf, ArePlansOfGoals, IsPlanned, SizedPlan}
+use Rattle.size_precheck.specs.Decisions.{AreDecisionPlans}
+use Rattle.size_precheck.specs.Sizes.{ArePlansOfGoals, IsPlanned, SizedPlan}
 use Rattle.rule_solver.specs.declared.decision_sums.RowSums.{RowSums}
 use Rattle.rule_solver.specs.declared.decision_sums.Setting.{Setting}
 use Rattle.rule_solver.specs.declared.joint_goals.JointSums.{JointSums}
@@ -62,7 +63,7 @@ total_in s plan = plan_total s.diagram.now.nodes s.base.now plan.plan
 
 -- these are the plans of the decision
 abbrev pub ArePlansIn : Setting → DecisionPlans → Type 0
-ArePlansIn s plans = ArePlansOf s.diagram.now.nodes s.decision plans.rows plans.goals.items
+ArePlansIn s plans = AreDecisionPlans s.diagram.now.nodes s.decision plans
 
 -- these are the plans of the decision's goals
 abbrev pub AreGoalPlansIn : Setting → List SizedPlan → Type 0

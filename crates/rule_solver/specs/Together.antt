@@ -1,13 +1,10 @@
 -- Goals of a decision that are summed together. Only private functions cite this file.
-use Rattle.std.specs.Prelude.{◌≡◌, ◌↔◌, ◌⊎◌, ℕ, ◌*◌, ◌<◌, ◌≤◌, List, take, Contains, Option, Some, None, MatchOption}
+use Rattle.std.specs.Prelude.{◌≡◌, ℕ, ◌*◌, ◌<◌, ◌≤◌, List, take, Option, Some, None, MatchOption}
 use Rattle.cell_rings.specs.Rings.{most_size}
 use Rattle.finite_sums.specs.Sums.{nat_product_over}
 use Rattle.joint_sums.specs.Joint.{IsJointOrder, joint_ruled}
-use Rattle.maid_model.specs.Graph.{AllDifferent}
 use Rattle.maid_model.specs.Tables.{weight_total}
 use Rattle.maid_model.specs.Views.{NodeView, RuleView}
-use Rattle.node_sets.specs.declared.sets.NodeSet.{NodeSet}
-use Rattle.node_sets.specs.Sets.{IsIn}
 use Rattle.plan_sums.specs.Sizes.{value_bound}
 use Rattle.size_precheck.specs.Sizes.{SizedPlan}
 use Rattle.rule_solver.specs.declared.joint_goals.JointSums.{JointSums}
@@ -21,26 +18,12 @@ utility_of_plan None = 0
 abbrev pub goal_in : SizedPlan → ℕ
 goal_in plan = utility_of_plan plan.plan.utility
 
--- the list has the nodes of the set, each once
-pub record IsListed (set : NodeSet) (list : List ℕ) : Type 0 where
-  pub once : AllDifferent list
-  pub members : (v : ℕ) → IsIn set v ↔ Contains list v
-
--- those of the nodes that were not listed are listed too
-pub record ListsMore (nodes before after : List ℕ) (set : NodeSet) : Type 0 where
-  pub listed : IsListed set after
-  pub all : (v : ℕ) → Contains after v ↔ (Contains before v ⊎ Contains nodes v)
-
--- one of the plans eliminates the node
-abbrev pub IsStepOf : List SizedPlan → ℕ → Type 0
-IsStepOf plans v = (plan : SizedPlan) × Contains plans plan × Contains plan.steps v
-
 -- what the joint sums of a decision's goals share: the nodes with their own tables, an order of the other nodes, and
 -- the product of those tables' totals
 pub record IsJoint
     (nodes : List NodeView) (p : List RuleView) (d : ℕ) (joint : JointSums) : Type 0 where
   pub ruled : joint.ruled.items ≡ joint_ruled nodes d
-  pub order : IsJointOrder nodes d joint.steps.items
+  pub order : IsJointOrder nodes d joint.steps.now
   pub total : joint.total ≡ nat_product_over (weight_total nodes p) (joint_ruled nodes d)
 
 -- the bound with one goal more, which fits

@@ -6,7 +6,7 @@ ghost use Rattle.maid_model.specs.Nodes.{IsDecision, rows_of};
 ghost use Rattle.maid_model.specs.Profiles.{IsProfile};
 ghost use Rattle.maid_model.specs.Scopes.{KeepsScopedBounds};
 ghost use Rattle.part_laws.specs.ScopeLaws.{HasSmallRules};
-ghost use Rattle.size_precheck.specs.Decisions.{AreDecisionPlans};
+ghost use Rattle.size_precheck.specs.Decisions.{AreDecisionPlans, ListsStepsOrNone};
 ghost use Rattle.rule_solver.specs.Rooms.{AreLeft, AreReadyForDecision, HasRoomForDecision};
 ghost use Rattle.rule_solver.specs.Settings.{AddsGoalsIn, AreGoalPlansIn, ArePlansIn, AreReadyForDecisionIn, AreReadyForGoal, AreReadyForGoalsIn, AreReadyForRows, AreRowGainsIn, AreRowSumsIn, HasGoalsIn, HasMassesIn, HasRoomForGoalsIn, HoldsSetting, IsGoalIn, IsPlannedForGoal, IsPlannedForRows, IsReadyForGoal, IsReadyForRows, KeepsRoomIn, goals_in, lacking_in_goal, lacking_in_rows, total_in};
 ghost use Rattle.rule_solver.specs.Sums.{AreRowSums, AreRowGains, KeepsRoom};
@@ -208,7 +208,7 @@ impl<'a> Setting<'a> {
         }
     }
 
-    /// Adds what the decision's goals give to the gains: of several goals together, in this order as far as that serves,
+    /// Adds what the decision's goals give to the gains: of several goals together, in this order for as long as that serves,
     /// and then of one after the other.
     fn add_goals(
         &self,
@@ -222,6 +222,7 @@ impl<'a> Setting<'a> {
         requires setting { HoldsSetting self.now }
         requires goals { goals.now ≡ goals_in self.now }
         requires planned { AreGoalPlansIn self.now plans.now }
+        requires order { ListsStepsOrNone plans.now order.now }
         requires ready { AreReadyForGoalsIn self.now spaces.old }
         requires none { HasGoalsIn self.now [] gains.old }
         ensures gains { OnOk result (HasGoalsIn self.now goals.now gains.new) }
@@ -251,6 +252,7 @@ impl<'a> Setting<'a> {
     ) -> Result<Vec<i128>, AllocError>
         requires setting { HoldsSetting self.now }
         requires planned { AreGoalPlansIn self.now plans.now }
+        requires order { ListsStepsOrNone plans.now order.now }
         requires ready { AreReadyForGoalsIn self.now spaces.old }
         ensures gains { IfOk result (λ gains. HasGoalsIn self.now (goals_in self.now) gains.items) }
         ensures again { OnOk result (spaces.new ≡ spaces.old) }
@@ -264,7 +266,7 @@ impl<'a> Setting<'a> {
 
     /// The gains of which `row_sums_by` tells, without the masses: it runs the plans of the goals alone, in workspaces with
     /// room for the largest of them, which are left as they were found. Several goals are summed together in this order of
-    /// nodes, such as a decision's plans have; what the gains are does not depend on it.
+    /// the plans' steps, such as a decision's plans have, and none without one; what the gains are does not depend on it.
     ///
     /// # Errors
     ///
@@ -278,6 +280,7 @@ impl<'a> Setting<'a> {
     ) -> Result<Vec<i128>, AllocError>
         requires setting { HoldsSetting self.now }
         requires planned { AreGoalPlansIn self.now plans.now }
+        requires order { ListsStepsOrNone plans.now order.now }
         requires ready { AreReadyForGoalsIn self.now spaces.old }
         ensures gains { IfOk result (AreRowGainsIn self.now) }
         ensures again { OnOk result (spaces.new ≡ spaces.old) }

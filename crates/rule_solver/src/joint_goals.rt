@@ -5,13 +5,12 @@
 //! gain of a product is the product of the weights times the sum of the values. Where that has no room, takes longer or
 //! might not fit, each goal's own plan is run instead.
 
-ghost use Rattle.std.specs.Prelude.{◌≡◌, ◌↔◌, ◌+◌, ◌*◌, ◌<◌, ◌≤◌, ℕ, [], Contains, IfOk, OnOk, drop, length, map, take};
-ghost use Rattle.maid_model.specs.Graph.{AllDifferent};
-ghost use Rattle.node_sets.specs.declared.sets.TheConstants.{MOST_NODES};
+ghost use Rattle.std.specs.Prelude.{◌≡◌, ◌+◌, ◌*◌, ◌<◌, ◌≤◌, ℕ, [], Contains, IfOk, OnOk, drop, length, map, take};
 ghost use Rattle.joint_sums.specs.Joint.{AreGoals};
+ghost use Rattle.size_precheck.specs.Decisions.{IsStepOf, ListsOnce, ListsStepsOrNone};
 ghost use Rattle.rule_solver.specs.Rooms.{IsEmptyWithin};
 ghost use Rattle.rule_solver.specs.Settings.{AreGoalPlansIn, HasGoalsIn, HasRoomForGoalsIn, HoldsSetting, IsJointIn, goals_in, AddsFirstGoalsIn};
-ghost use Rattle.rule_solver.specs.Together.{FitsPairs, IsListed, IsStepOf, ListsMore, goal_in, FitsPairsOfFirst, IsBoundOrNone};
+ghost use Rattle.rule_solver.specs.Together.{FitsPairs, goal_in, FitsPairsOfFirst, IsBoundOrNone};
 
 use crate::decision_sums::Setting;
 use crate::reading::{LastTable, add_gains, list_scope};
@@ -21,7 +20,7 @@ use cell_rings::Both;
 use eliminate::{Limits, RunLists, first_numbers_fit, release, sum_tables};
 use factor_core::Workspace;
 use maid_model::Diagram;
-use node_sets::{MOST_NODES, NodeSet};
+use node_sets::NodeSet;
 use scope_sums::plans_keep_scopes;
 use size_precheck::Plan;
 use std::alloc::{AllocError, Global};
@@ -31,11 +30,11 @@ const MOST_SIZE: u128 = i128::MAX as u128;
 
 /// What the joint sums of a decision's goals share.
 #[derive(Drop)]
-struct JointSums {
+struct JointSums<'a> {
     /// The nodes whose own tables are multiplied: the chance and decision nodes of the scope, but the decision.
     ruled: Vec<usize>,
     /// Those of them that are summed out, in their order.
-    steps: Vec<usize>,
+    steps: &'a [usize],
     /// The product of the ruled nodes' totals.
     total: u128,
 }
@@ -54,56 +53,6 @@ fn behind<T>(list: &[T], n: usize) -> &[T]
     ensures { result.now ≡ drop n list.now }
 {
     list.split_at(n).1
-}
-
-/// Lists those of the nodes that are not listed yet.
-fn list_new(nodes: &[usize], listed: &mut NodeSet, list: &mut Vec<usize>) -> Result<(), AllocError>
-    requires known { (v : ℕ) → Contains nodes.now v → v < MOST_NODES }
-    requires listed { IsListed listed.old list.old.items }
-    ensures { OnOk result (ListsMore nodes.now list.old.items list.new.items listed.new) }
-{
-    for v in nodes {
-        if !listed.holds(*v) {
-            listed.insert(*v);
-            list.push(*v)?;
-        }
-    }
-    Ok(())
-}
-
-/// Those of the order that one of the plans eliminates.
-fn ordered_steps(alloc: Global, plans: &[Plan], order: &[usize]) -> Result<Vec<usize>, AllocError>
-    requires { (v : ℕ) → IsStepOf plans.now v → v < MOST_NODES }
-    ensures { IfOk result (λ steps. (v : ℕ) → Contains steps.items v → IsStepOf plans.now v) }
-{
-    let mut all = NodeSet::empty();
-    for plan in plans {
-        all.insert_all(plan.steps());
-    }
-    let mut steps = Vec::with_capacity(alloc, order.len())?;
-    for v in order {
-        if *v < MOST_NODES && all.holds(*v) {
-            steps.push(*v)?;
-        }
-    }
-    Ok(steps)
-}
-
-/// The nodes that the plans eliminate, each once: in this order as far as it has them, and then what each plan has
-/// besides.
-fn list_steps(alloc: Global, plans: &[Plan], order: &[usize]) -> Result<Vec<usize>, AllocError>
-    requires { (v : ℕ) → IsStepOf plans.now v → v < MOST_NODES }
-    ensures once { IfOk result (λ steps. AllDifferent steps.items) }
-    ensures all { IfOk result (λ steps. (v : ℕ) → Contains steps.items v ↔ IsStepOf plans.now v) }
-{
-    let ordered = ordered_steps(alloc, plans, order)?;
-    let mut listed = NodeSet::empty();
-    let mut steps = Vec::with_capacity(alloc, ordered.len())?;
-    list_new(&ordered, &mut listed, &mut steps)?;
-    for plan in plans {
-        list_new(plan.steps(), &mut listed, &mut steps)?;
-    }
-    Ok(steps)
 }
 
 /// The bound with one goal more, where it still fits.
@@ -133,20 +82,21 @@ pub(crate) fn list_goals(alloc: Global, plans: &[Plan]) -> Result<Vec<usize>, Al
     Ok(goals)
 }
 
-impl JointSums {
+impl<'a> JointSums<'a> {
     /// What the joint sums of these goals share, all goals of the decision, which have these plans. Nodes are summed out in
-    /// this order as far as it has them.
+    /// this order.
     fn new(
         alloc: Global,
         setting: &Setting,
         goals: &[usize],
         plans: &[Plan],
-        order: &[usize],
-    ) -> Result<JointSums, AllocError>
+        order: &'a [usize],
+    ) -> Result<JointSums<'a>, AllocError>
         requires setting { HoldsSetting setting.now }
         requires goals { goals.now ≡ goals_in setting.now }
         requires some { 0 < length goals.now }
         requires planned { AreGoalPlansIn setting.now plans.now }
+        requires order { ListsOnce (IsStepOf plans.now) order.now }
         ensures { IfOk result (IsJointIn setting.now) }
     {
         let mut left_out = NodeSet::of(setting.decision);
@@ -154,7 +104,7 @@ impl JointSums {
         let ruled = setting.scope.difference(&left_out);
         Ok(JointSums {
             ruled: list_scope(alloc, setting.diagram, &ruled)?,
-            steps: list_steps(alloc, plans, order)?,
+            steps: order,
             total: product_in(setting.totals, &ruled),
         })
     }
@@ -208,7 +158,7 @@ impl JointSums {
             setting.diagram,
             setting.base,
             &nodes,
-            &self.steps,
+            self.steps,
             limits,
         );
         match slot {
@@ -280,6 +230,7 @@ pub(crate) fn add_together(
     requires setting { HoldsSetting setting.now }
     requires goals { goals.now ≡ goals_in setting.now }
     requires planned { AreGoalPlansIn setting.now plans.now }
+    requires order { ListsStepsOrNone plans.now order.now }
     requires ready { IsEmptyWithin cells work.old }
     requires none { HasGoalsIn setting.now [] gains.old }
     ensures few { IfOk result (λ n. n ≤ length goals.now) }

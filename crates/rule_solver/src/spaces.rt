@@ -7,12 +7,8 @@ ghost use Rattle.rule_solver.specs.Rooms.{AreLeft, AreNeededForPlans, AreReady, 
 use cell_rings::{Both, Gain, SmallGain};
 use eliminate::RunLists;
 use factor_core::Workspace;
-use size_precheck::Plan;
+use size_precheck::{Plan, pair_room};
 use std::alloc::{AllocError, Global};
-
-/// How many cells the workspace of pairs has room for at most. Goals whose joint sum asks for more are summed one by
-/// one, so more room would seldom be used.
-pub const MOST_PAIR_CELLS: usize = 65_536;
 
 /// Three workspaces: one for the plans whose numbers surely fit cells of 64 bits, one for all others, and one for goals
 /// that are summed together, in pairs of a mass and a gain. Reserved once, they serve any number of plans, one after
@@ -31,13 +27,13 @@ pub struct Workspaces {
 }
 
 impl Workspaces {
-    /// Workspaces without a table: two with room for so many cells each, and that of pairs with room for four times as
-    /// many, up to `MOST_PAIR_CELLS`.
+    /// Workspaces without a table: two with room for so many cells each, and that of pairs with the room that
+    /// `pair_room` tells of.
     pub fn reserve(alloc: Global, cells: usize) -> Result<Workspaces, AllocError>
         requires { cells ≤ MOST_PLAN_CELLS }
         ensures { IfOk result (AreReady cells) }
     {
-        let pair_cells = (4 * cells).min(MOST_PAIR_CELLS);
+        let pair_cells = pair_room(cells);
         Ok(Workspaces {
             small: Workspace::reserve(alloc, cells)?,
             wide: Workspace::reserve(alloc, cells)?,

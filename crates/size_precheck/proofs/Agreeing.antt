@@ -15,17 +15,19 @@ use Rattle.node_sets.specs.Sets.{IsIn}
 use Rattle.ring_sums.specs.Tables.{joined_without, scopes_one, scopes_after}
 use Rattle.plan_sums.specs.Laws.{IsOrderOfPlan}
 use Rattle.plan_sums.specs.Plans.{PlanView, mass_cells, has, in_plan, plan_nodes, eliminated_nodes, ruled_nodes, row_plan, gain_plan, worth_plan}
+use Rattle.size_precheck.specs.declared.decisions.DecisionPlans.{DecisionPlans}
 use Rattle.size_precheck.specs.declared.joints.Joint.{Joint}
 use Rattle.size_precheck.specs.declared.keeping.KeptPlans.{KeptPlans}
 use Rattle.size_precheck.specs.declared.keeping.KeptRun.{KeptRun}
 use Rattle.size_precheck.specs.declared.planners.Family.{Family}
 use Rattle.size_precheck.specs.declared.planners.Planner.{Planner}
 use Rattle.size_precheck.specs.Counts.{counted_cells}
+use Rattle.size_precheck.specs.Decisions.{AreDecisionPlans}
 use Rattle.size_precheck.specs.Greedy.{first_scopes, holding, joined_set, IsNext, IsGreedy, IsGreedyOrder}
 use Rattle.size_precheck.specs.Families.{IsFamily, IsJointAmong, IsOfFamily, IsPlanner, IsRuledBelow, family_at}
 use Rattle.size_precheck.specs.Joints.{family_test, joint_at, parents_test}
 use Rattle.size_precheck.specs.Kept.{IsKept, IsKeptRun, KeepsPlans}
-use Rattle.size_precheck.specs.Sizes.{SizedPlan, CanBePlanned, IsMade, IsPlanned, ArePlansOf, made_cells, steps_work, plan_cells, plan_work, goal_list, utility_list}
+use Rattle.size_precheck.specs.Sizes.{SizedPlan, CanBePlanned, IsMade, IsPlanned, made_cells, steps_work, plan_cells, plan_work, goal_list, utility_list}
 use Rattle.size_precheck.proofs.Planning.{scopes_listed}
 
 pub utility_kind : (kind : Kind) → is_utility kind ≡ true → kind ≡ Utility
@@ -161,18 +163,19 @@ module _ (nodes others : List NodeView) (k : KeepsPlans nodes others) where
       owned : (u : ℕ) → is_utility_of nodes (agent_of nodes d) u ≡ is_utility_of others (agent_of others d) u
       owned u = sym (k.owned (agent_of nodes d) u) ∙ ap (λ a. is_utility_of others a u) (sym (k.agent d is))
 
-  plans_there : (d : ℕ) (rows : SizedPlan) (goals : List SizedPlan) → IsDecision nodes d → ArePlansOf nodes d rows goals → ArePlansOf others d rows goals
-  plans_there d rows goals is h = record {
-    of_rows = planned_there (row_plan others d) rows (subst (λ (parents : List ℕ). IsPlanned nodes (record { keep = parents; without = None; utility = None }) rows) (sym (k.parents d)) h.of_rows);
-    of_goals = all_planned (map (λ u. gain_plan others d u) (goal_list others d)) goals
-        (subst (λ plans. AllZip (IsPlanned nodes) plans goals)
+  plans_there : (d : ℕ) (plans : DecisionPlans) → IsDecision nodes d → AreDecisionPlans nodes d plans → AreDecisionPlans others d plans
+  plans_there d own is h = record {
+    of_rows = planned_there (row_plan others d) own.rows (subst (λ (parents : List ℕ). IsPlanned nodes (record { keep = parents; without = None; utility = None }) own.rows) (sym (k.parents d)) h.of_rows);
+    of_goals = all_planned (map (λ u. gain_plan others d u) (goal_list others d)) own.goals.items
+        (subst (λ plans. AllZip (IsPlanned nodes) plans own.goals.items)
         (λ i. map (λ u. record { keep = d ∷ sym (k.parents d) i; without = Some d; utility = Some u }) (goals_same d is i)) h.of_goals);
+    order = h.order;
   }
 
 pub kept_there : (nodes others : List NodeView) (kept : KeptPlans) → KeepsPlans nodes others → IsKept nodes kept → IsKept others kept
 kept_there nodes others kept k h = record {
   decision = k.decision kept.decision h.decision;
-  plans = plans_there nodes others k kept.decision kept.plans.rows kept.plans.goals.items h.decision h.plans;
+  plans = plans_there nodes others k kept.decision kept.plans h.decision h.plans;
 }
 
 -- ---- what all plans share

@@ -14,10 +14,10 @@ use Rattle.node_sets.specs.Sets.{IsIn}
 use Rattle.plan_sums.specs.Plans.{PlanView, gain_plan, row_plan}
 use Rattle.size_precheck.specs.declared.decisions.DecisionPlans.{DecisionPlans}
 use Rattle.size_precheck.specs.declared.sizes.Size.{Size}
-use Rattle.size_precheck.specs.Decisions.{ArePlans}
+use Rattle.size_precheck.specs.Decisions.{AreDecisionPlans, ArePlans}
 use Rattle.size_precheck.specs.Joints.{SomeOf, IsListOf}
 use Rattle.size_precheck.specs.Runs.{Includes}
-use Rattle.size_precheck.specs.Sizes.{SizedPlan, IsPlanned, ArePlansOf, goal_list, is_goal}
+use Rattle.size_precheck.specs.Sizes.{SizedPlan, IsPlanned, goal_list, is_goal}
 use Rattle.size_precheck.proofs.Lists.{each_at, some_at}
 use Rattle.size_precheck.proofs.Measuring.{filter_more, goal_tested, include_made, include_row, include_list, include_then}
 use Rattle.size_precheck.proofs.Planning.{rising_filter, rising_range}
@@ -72,20 +72,17 @@ include_plan nodes asked plans i plan a b size c z h at is joined so =
     let here : IsPlanned nodes (get_or asked i plan.plan) plan = subst (IsPlanned nodes (get_or asked i plan.plan)) (sym at) (zip_at (IsPlanned nodes) asked plans i plan.plan plan z h) in
     subst (λ l. Includes nodes l a c) (sym (take_more asked i plan.plan within)) (include_then nodes (take i asked) (get_or asked i plan.plan ∷ []) a b c so (include_made nodes (get_or asked i plan.plan) plan b size c here.made is joined))
 
-abbrev OfDecision : List NodeView → ℕ → DecisionPlans → Type 0
-OfDecision nodes d p = ArePlansOf nodes d p.rows p.goals.items
-
 -- the plans of one decision more
-pub plans_next : (nodes : List NodeView) (order : List ℕ) (plans : List DecisionPlans) (i : ℕ) (plan : DecisionPlans) → i < length order → ArePlans nodes (take i order) plans → OfDecision nodes (get_or order i 0) plan → ArePlans nodes (take (i + 1) order) (plans ++ plan ∷ [])
+pub plans_next : (nodes : List NodeView) (order : List ℕ) (plans : List DecisionPlans) (i : ℕ) (plan : DecisionPlans) → i < length order → ArePlans nodes (take i order) plans → AreDecisionPlans nodes (get_or order i 0) plan → ArePlans nodes (take (i + 1) order) (plans ++ plan ∷ [])
 plans_next nodes order plans i plan h z r =
-    subst (λ l. ArePlans nodes l (plans ++ plan ∷ [])) (sym (take_more order i 0 h)) (zip_append (OfDecision nodes) (take i order) (get_or order i 0 ∷ []) plans (plan ∷ []) z (r, tt))
+    subst (λ l. ArePlans nodes l (plans ++ plan ∷ [])) (sym (take_more order i 0 h)) (zip_append (AreDecisionPlans nodes) (take i order) (get_or order i 0 ∷ []) plans (plan ∷ []) z (r, tt))
 
 -- the plan of one decision's rows more
 pub include_rows_of : (nodes : List NodeView) (order : List ℕ) (plans : List DecisionPlans) (i : ℕ) (plan : DecisionPlans) (a b size c : Size) → ArePlans nodes order plans → i < length plans → plan ≡ get_or plans i plan → size ≡ plan.rows.size
     → c ≡ record { cells = max b.cells size.cells; work = stopped (b.work + size.work) } → Includes nodes (map (λ d. row_plan nodes d) (take i order)) a b → Includes nodes (map (λ d. row_plan nodes d) (take (i + 1) order)) a c
 include_rows_of nodes order plans i plan a b size c z h at is joined so =
-    let within : i < length order = let e = zip_long (OfDecision nodes) order plans z in omega arith in
-    let here : OfDecision nodes (get_or order i 0) plan = subst (OfDecision nodes (get_or order i 0)) (sym at) (zip_at (OfDecision nodes) order plans i 0 plan z h) in
+    let within : i < length order = let e = zip_long (AreDecisionPlans nodes) order plans z in omega arith in
+    let here : AreDecisionPlans nodes (get_or order i 0) plan = subst (AreDecisionPlans nodes (get_or order i 0)) (sym at) (zip_at (AreDecisionPlans nodes) order plans i 0 plan z h) in
     include_row nodes (λ d. row_plan nodes d) order i (get_or order i 0) a b c within refl so (include_made nodes (row_plan nodes (get_or order i 0)) plan.rows b size c here.of_rows.made is joined)
 
 -- the plans of one decision's states more
@@ -93,8 +90,8 @@ pub include_goals_of : (nodes : List NodeView) (order : List ℕ) (plans : List 
     → ((asked : List PlanView) → AllZip (IsPlanned nodes) asked plan.goals.items → Includes nodes asked b c)
     → Includes nodes (flat_map (λ d. map (λ u. gain_plan nodes d u) (goal_list nodes d)) (take i order)) a b → Includes nodes (flat_map (λ d. map (λ u. gain_plan nodes d u) (goal_list nodes d)) (take (i + 1) order)) a c
 include_goals_of nodes order plans i plan a b c z h at counted so =
-    let within : i < length order = let e = zip_long (OfDecision nodes) order plans z in omega arith in
-    let here : OfDecision nodes (get_or order i 0) plan = subst (OfDecision nodes (get_or order i 0)) (sym at) (zip_at (OfDecision nodes) order plans i 0 plan z h) in
+    let within : i < length order = let e = zip_long (AreDecisionPlans nodes) order plans z in omega arith in
+    let here : AreDecisionPlans nodes (get_or order i 0) plan = subst (AreDecisionPlans nodes (get_or order i 0)) (sym at) (zip_at (AreDecisionPlans nodes) order plans i 0 plan z h) in
     include_list nodes (λ d. map (λ u. gain_plan nodes d u) (goal_list nodes d)) order i (get_or order i 0) a b c within refl so (counted _ here.of_goals)
 
 -- ---- goals

@@ -18,3 +18,4 @@ mod Above
 pub mod Joining
 pub mod Classing
 mod Near
+mod Ordering

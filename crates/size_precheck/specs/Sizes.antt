@@ -111,12 +111,6 @@ AreGainPlans nodes d goals plans =
 abbrev pub ArePlansOfGoals : List NodeView → ℕ → List SizedPlan → Type 0
 ArePlansOfGoals nodes d plans = AreGainPlans nodes d (goal_list nodes d) plans
 
--- the plans of a decision: that of its rows, and those of its states, one for each of its goals
-pub record ArePlansOf
-    (nodes : List NodeView) (d : ℕ) (rows : SizedPlan) (goals : List SizedPlan) : Type 0 where
-  pub of_rows : IsPlanned nodes (row_plan nodes d) rows
-  pub of_goals : ArePlansOfGoals nodes d goals
-
 -- the utilities in text order
 abbrev pub utility_list : List NodeView → List ℕ
 utility_list nodes = filter (λ u. is_utility (node_at nodes u).kind) (numbers_of nodes)

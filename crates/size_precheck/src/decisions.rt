@@ -23,8 +23,8 @@ pub struct DecisionPlans {
     pub rows: Plan,
     /// Those of its states, one for each of its goals in text order.
     pub goals: Vec<Plan>,
-    /// The nodes that these eliminate, in an order in which all goals may be summed together; empty where that would take
-    /// longer. What the sums give does not depend on it.
+    /// The nodes that these eliminate, each once, in an order in which all goals may be summed together; empty where that
+    /// would take longer or have no room. What the sums give does not depend on it.
     pub joint_order: Vec<usize>,
 }
 
@@ -44,6 +44,7 @@ impl DecisionPlans {
     pub(crate) fn copy(&self, alloc: Global) -> Result<DecisionPlans, AllocError>
         ensures rows { IfOk result (λ copy. copy.rows ≡ self.now.rows) }
         ensures goals { IfOk result (λ copy. copy.goals.items ≡ self.now.goals.items) }
+        ensures order { IfOk result (λ copy. copy.joint_order.items ≡ self.now.joint_order.items) }
     {
         let rows = self.rows.copy(alloc)?;
         let goals = copy_plans(alloc, &self.goals)?;

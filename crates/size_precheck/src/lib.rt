@@ -20,6 +20,7 @@ mod starts;
 mod worths;
 
 pub use decisions::{DecisionPlans, plan_decision, plan_decision_by};
+pub use joint_orders::{MOST_PAIR_CELLS, pair_room};
 pub use keeping::{KeptPlans, KeptRun, keep_edited, keep_plans};
 pub use laws::{greedy_orders, kept_plans_stand, kept_runs_stand, sizes_of_plans};
 pub use planners::Planner;

@@ -22,9 +22,9 @@ use Rattle.rule_solver.specs.Masses.{KeepsStates}
 use Rattle.rule_solver.specs.Rooms.{HasRoomForDecision}
 use Rattle.rule_solver.specs.Sums.{IsRowGains}
 use Rattle.size_precheck.specs.declared.decisions.DecisionPlans.{DecisionPlans}
+use Rattle.size_precheck.specs.Decisions.{AreDecisionPlans}
 use Rattle.size_precheck.specs.Kept.{KeptPlansStand}
 use Rattle.size_precheck.specs.Laws.{GreedyOrdersAreOrders}
-use Rattle.size_precheck.specs.Sizes.{ArePlansOf}
 use Rattle.threshold.specs.declared.weights.Place.{Place}
 use Rattle.threshold.specs.Answers.{HoldsAtFraction, IsAnswerOf, IsThresholdSetting}
 use Rattle.threshold.specs.Ends.{IsEnd}
@@ -83,11 +83,11 @@ module _ (d : DiagramView) (solved : SolvedView) (place : Place) (nought one : D
   room_one orders cells room = room_same d.nodes one.nodes (end_like d place set.is_diagram at 1 set.ends.total one set.ends.at_one answer.decision k) orders cells answer.decision room
 
   -- the plans of the decision are those of both ends
-  pub plans_nought : KeptPlansStand → (plans : DecisionPlans) → ArePlansOf d.nodes answer.decision plans.rows plans.goals.items → ArePlansOf nought.nodes answer.decision plans.rows plans.goals.items
+  pub plans_nought : KeptPlansStand → (plans : DecisionPlans) → AreDecisionPlans d.nodes answer.decision plans → AreDecisionPlans nought.nodes answer.decision plans
   plans_nought stand plans are =
       (stand d.nodes nought.nodes (record { decision = answer.decision; plans = plans }) (keeps_plans d.nodes nought.nodes (end_like d place set.is_diagram at 0 set.ends.total nought set.ends.at_nought answer.decision k)) (record { decision = k; plans = are })).plans
 
-  pub plans_one : KeptPlansStand → (plans : DecisionPlans) → ArePlansOf d.nodes answer.decision plans.rows plans.goals.items → ArePlansOf one.nodes answer.decision plans.rows plans.goals.items
+  pub plans_one : KeptPlansStand → (plans : DecisionPlans) → AreDecisionPlans d.nodes answer.decision plans → AreDecisionPlans one.nodes answer.decision plans
   plans_one stand plans are =
       (stand d.nodes one.nodes (record { decision = answer.decision; plans = plans }) (keeps_plans d.nodes one.nodes (end_like d place set.is_diagram at 1 set.ends.total one set.ends.at_one answer.decision k)) (record { decision = k; plans = are })).plans
 

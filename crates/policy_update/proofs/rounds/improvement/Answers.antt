@@ -8,6 +8,7 @@ use Rattle.maid_model.specs.Views.{AnswerView}
 use Rattle.part_laws.specs.PartLaws.{DecidesAlike}
 use Rattle.rule_solver.specs.Sums.{IsRowGains}
 use Rattle.rule_solver.specs.Totals.{HasTotals}
+use Rattle.size_precheck.specs.Decisions.{ListsStepsOrNone}
 use Rattle.size_precheck.specs.Sizes.{ArePlansOfGoals, SizedPlan}
 use Rattle.policy_update.specs.Kept.{IsScopeOf}
 use Rattle.policy_update.specs.Steps.{AreSameChoices, KeepChoices}
@@ -54,6 +55,13 @@ row_gains-requires-clause-planned c =
     subst (λ d. ArePlansOfGoals nodes d c.deref-2.result.now) (sym (same ∙ c.requires.here))
     (subst (λ (l : List SizedPlan). ArePlansOfGoals nodes (get_or (decisions_of nodes) c.args.place 0) l) (sym c.deref-2.ensures.value)
     (plans_at nodes c.args.kept.now c.requires.kept.is_kept c.args.place c.requires.place c.index-kept-place.result).of_goals)
+
+pub row_gains-requires-clause-order : goal.row_gains-requires-clause-order
+row_gains-requires-clause-order c =
+    let plan = get_or c.args.kept.now.plans.now c.args.place c.index-kept-place.result in
+    subst (λ (goals : List SizedPlan). ListsStepsOrNone goals c.deref-3.result.now) (sym c.deref-2.ensures.value)
+    (subst (λ (order : List ℕ). ListsStepsOrNone plan.goals.items order) (sym c.deref-3.ensures.value)
+    (plans_at c.args.diagram.now.nodes c.args.kept.now c.requires.kept.is_kept c.args.place c.requires.place c.index-kept-place.result).order)
 
 pub row_gains-requires-clause-ready : goal.row_gains-requires-clause-ready
 row_gains-requires-clause-ready c =

@@ -17,7 +17,7 @@ more_than cells room n more few = omega (arith, more, few)
 
 pub with_room-requires-clause-limit : goal.with_room-requires-clause-limit
 with_room-requires-clause-limit c =
-    let both = room_kept c.args.diagram.now.nodes c.count-count.ensures.diagram.graph c.args.decision c.requires.decision c.args.plans.now.rows c.args.plans.now.goals.items c.requires.planned MOST_PLAN_CELLS c.requires.room in
+    let both = room_kept c.args.diagram.now.nodes c.count-count.ensures.diagram.graph c.args.decision c.requires.decision c.args.plans.now.rows c.args.plans.now.goals.items c.requires.planned.of_rows c.requires.planned.of_goals MOST_PLAN_CELLS c.requires.room in
     c.most_cells-cells.ensures.least MOST_PLAN_CELLS
     (subst (λ (s : Size). s.cells ≤ MOST_PLAN_CELLS) (sym c.size.ensures) both.0)
     (subst (λ (l : List SizedPlan). All (λ (plan : SizedPlan). plan.size.cells ≤ MOST_PLAN_CELLS) l) (sym c.deref.ensures.value) both.1)
@@ -34,7 +34,7 @@ returns c =
     (λ spaces ready more. (
       spaces.cells,
       ready,
-      kept_room nodes c.count-count.ensures.diagram.graph c.args.decision c.requires.decision plans.rows plans.goals.items c.requires.planned c.greedy_orders.ensures.one spaces.cells
+      kept_room nodes c.count-count.ensures.diagram.graph c.args.decision c.requires.decision plans.rows plans.goals.items c.requires.planned.of_rows c.requires.planned.of_goals c.greedy_orders.ensures.one spaces.cells
           (more_than cells spaces.cells _ more (subst (λ (s : Size). s.cells ≤ cells) c.size.ensures c.most_cells-cells.ensures.fewest))
           (λ k d h. more_than cells spaces.cells _ more (subst (λ (l : List SizedPlan). All (λ (plan : SizedPlan). plan.size.cells ≤ cells) l) c.deref.ensures.value c.most_cells-cells.ensures.plans k d h)),
     ))

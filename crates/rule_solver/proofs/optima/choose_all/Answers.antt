@@ -2,7 +2,7 @@ use Rattle.std.proofs.Common.{rules, arith, ◌≡◌, [], ◌<◌, length, ◌�
 use Rattle.std.proofs.lemmas.Slice.Zip.{AllZip-long}
 use Rattle.maid_model.specs.Answers.{IsBase, pure_profile}
 use Rattle.maid_model.specs.Graph.{AllDifferent}
-use Rattle.size_precheck.specs.Sizes.{ArePlansOf}
+use Rattle.size_precheck.specs.Decisions.{AreDecisionPlans}
 use Rattle.rule_solver.specs.Bases.{IsTurningBase}
 use Rattle.rule_solver.specs.Optima.{ChoosesAll}
 use Rattle.rule_solver.specs.Rooms.{AreReady}
@@ -71,7 +71,7 @@ loop-place-preserved c =
 pub bounds-plans-place : goal.bounds-plans-place
 bounds-plans-place c =
     let here = c.loop-place-test.true in
-    let long = AllZip-long (λ d p. ArePlansOf c.args.diagram.now.nodes d p.rows p.goals.items) c.args.order.now c.args.plans.now c.requires.planned in
+    let long = AllZip-long (AreDecisionPlans c.args.diagram.now.nodes) c.args.order.now c.args.plans.now c.requires.planned in
     omega (arith, here, long)
 
 pub offset_bounds-plans-place : goal.offset_bounds-plans-place
@@ -82,10 +82,10 @@ choose-requires-clause-planned c =
     let nodes = c.args.diagram.now.nodes in
     let order = c.args.order.now in
     let plans = c.args.plans.now in
-    let long = AllZip-long (λ d p. ArePlansOf nodes d p.rows p.goals.items) order plans c.requires.planned in
+    let long = AllZip-long (AreDecisionPlans nodes) order plans c.requires.planned in
     let here = c.loop-place-test.true in
-    subst (λ p. ArePlansOf nodes (slice_index order c.loop-place.place) p.rows p.goals.items) (sym c.index-plans-place.is)
-    (zip_at (λ d p. ArePlansOf nodes d p.rows p.goals.items) order plans c.loop-place.place 0 c.index-plans-place.result c.requires.planned (omega (arith, here, long)))
+    subst (AreDecisionPlans nodes (slice_index order c.loop-place.place)) (sym c.index-plans-place.is)
+    (zip_at (AreDecisionPlans nodes) order plans c.loop-place.place 0 c.index-plans-place.result c.requires.planned (omega (arith, here, long)))
 
 pub choose-requires-clause-decision : goal.choose-requires-clause-decision
 choose-requires-clause-decision c = placed_decision c.args.diagram.now.nodes c.args.order.now c.requires.order c.loop-place.place c.loop-place-test.true

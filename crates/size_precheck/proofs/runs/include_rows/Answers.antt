@@ -1,8 +1,8 @@
 use Rattle.std.proofs.Common.{◌≤◌, ◌^◌, ap, arith, map, subst, sym}
 use Rattle.plan_sums.specs.Plans.{row_plan}
 use Rattle.size_precheck.specs.declared.sizes.Size.{Size}
+use Rattle.size_precheck.specs.Decisions.{AreDecisionPlans}
 use Rattle.size_precheck.specs.Runs.{Includes}
-use Rattle.size_precheck.specs.Sizes.{ArePlansOf}
 use Rattle.size_precheck.proofs.Counting.{stopped_few}
 use Rattle.size_precheck.proofs.Kept.{include_rows_of, take_whole, zip_long}
 use Rattle.size_precheck.proofs.runs.include_rows.Goals as goal
@@ -17,5 +17,5 @@ loop-decision-preserved c = (
 pub returns-clause-counted : goal.returns-clause-counted
 returns-clause-counted c nodes order z =
     let out = c.loop-decision-test.false in
-    let long = zip_long (λ d p. ArePlansOf nodes d p.rows p.goals.items) order c.args.plans.now z in
+    let long = zip_long (AreDecisionPlans nodes) order c.args.plans.now z in
     subst (λ l. Includes nodes (map (λ d. row_plan nodes d) l) c.args.size c.loop-decision.sum) (take_whole order c.loop-decision.decision-index (omega (arith, out, long))) (c.loop-decision.invariant.1 nodes order z)

@@ -22,65 +22,62 @@ pub sum_tables-slot-requires-clause-known : goal.sum_tables-slot-requires-clause
 sum_tables-slot-requires-clause-known c =
     let list : c.deref-2.result.now ≡ joint_ruled c.args.setting.now.diagram.now.nodes c.args.setting.now.decision ++ c.args.goals.now =
     nodes_are c.args.goals.now c.deref-2.ensures.value c.in_ok-extend_from_slice.ensures.items c.in_ok-nodes.ensures.items c.deref.ensures.value c.requires.joint.ruled in
-    subst (All (λ v. v < length c.args.setting.now.diagram.now.nodes)) (sym list) (known c.args.setting.now.diagram.now c.args.setting.now.base.now c.args.setting.now.decision c.args.setting.now.totals.now c.args.setting.now.scope c.requires.setting c.args.goals.now c.requires.goals c.args.self.now.total c.requires.joint.total c.requires.fits c.args.self.now.steps.items c.requires.joint.order)
+    subst (All (λ v. v < length c.args.setting.now.diagram.now.nodes)) (sym list) (known c.args.setting.now.diagram.now c.args.setting.now.base.now c.args.setting.now.decision c.args.setting.now.totals.now c.args.setting.now.scope c.requires.setting c.args.goals.now c.requires.goals c.args.self.now.total c.requires.joint.total c.requires.fits c.args.self.now.steps.now c.requires.joint.order)
 
 pub sum_tables-slot-requires-clause-few : goal.sum_tables-slot-requires-clause-few
 sum_tables-slot-requires-clause-few c =
     let list : c.deref-2.result.now ≡ joint_ruled c.args.setting.now.diagram.now.nodes c.args.setting.now.decision ++ c.args.goals.now =
     nodes_are c.args.goals.now c.deref-2.ensures.value c.in_ok-extend_from_slice.ensures.items c.in_ok-nodes.ensures.items c.deref.ensures.value c.requires.joint.ruled in
-    subst (λ (l : List ℕ). length l ≤ 256) (sym list) (few_labels c.args.setting.now.diagram.now c.args.setting.now.base.now c.args.setting.now.decision c.args.setting.now.totals.now c.args.setting.now.scope c.requires.setting c.args.goals.now c.requires.goals c.args.self.now.total c.requires.joint.total c.requires.fits c.args.self.now.steps.items c.requires.joint.order)
+    subst (λ (l : List ℕ). length l ≤ 256) (sym list) (few_labels c.args.setting.now.diagram.now c.args.setting.now.base.now c.args.setting.now.decision c.args.setting.now.totals.now c.args.setting.now.scope c.requires.setting c.args.goals.now c.requires.goals c.args.self.now.total c.requires.joint.total c.requires.fits c.args.self.now.steps.now c.requires.joint.order)
 
 pub sum_tables-slot-requires-clause-numbers : goal.sum_tables-slot-requires-clause-numbers
 sum_tables-slot-requires-clause-numbers c =
     let list : c.deref-2.result.now ≡ joint_ruled c.args.setting.now.diagram.now.nodes c.args.setting.now.decision ++ c.args.goals.now =
     nodes_are c.args.goals.now c.deref-2.ensures.value c.in_ok-extend_from_slice.ensures.items c.in_ok-nodes.ensures.items c.deref.ensures.value c.requires.joint.ruled in
-    subst (All (NumbersFit most_size c.args.setting.now.diagram.now.nodes c.args.setting.now.base.now)) (sym list) (numbers c.args.setting.now.diagram.now c.args.setting.now.base.now c.args.setting.now.decision c.args.setting.now.totals.now c.args.setting.now.scope c.requires.setting c.args.goals.now c.requires.goals c.args.self.now.total c.requires.joint.total c.requires.fits c.args.self.now.steps.items c.requires.joint.order c.first_numbers_fit.ensures.weights c.first_numbers_fit.ensures.values)
+    subst (All (NumbersFit most_size c.args.setting.now.diagram.now.nodes c.args.setting.now.base.now)) (sym list) (numbers c.args.setting.now.diagram.now c.args.setting.now.base.now c.args.setting.now.decision c.args.setting.now.totals.now c.args.setting.now.scope c.requires.setting c.args.goals.now c.requires.goals c.args.self.now.total c.requires.joint.total c.requires.fits c.args.self.now.steps.now c.requires.joint.order c.first_numbers_fit.ensures.weights c.first_numbers_fit.ensures.values)
 
 pub sum_tables-slot-requires-clause-steps : goal.sum_tables-slot-requires-clause-steps
 sum_tables-slot-requires-clause-steps c =
-    subst (All (λ v. v < length c.args.setting.now.diagram.now.nodes)) (sym c.deref-3.ensures.value) (steps_known c.args.setting.now.diagram.now c.args.setting.now.base.now c.args.setting.now.decision c.args.setting.now.totals.now c.args.setting.now.scope c.requires.setting c.args.goals.now c.requires.goals c.args.self.now.total c.requires.joint.total c.requires.fits c.args.self.now.steps.items c.requires.joint.order)
+    steps_known c.args.setting.now.diagram.now c.args.setting.now.base.now c.args.setting.now.decision c.args.setting.now.totals.now c.args.setting.now.scope c.requires.setting c.args.goals.now c.requires.goals c.args.self.now.total c.requires.joint.total c.requires.fits c.args.self.now.steps.now c.requires.joint.order
 
 pub sum_tables-slot-requires-clause-holds : goal.sum_tables-slot-requires-clause-holds
 sum_tables-slot-requires-clause-holds c =
     let list : c.deref-2.result.now ≡ joint_ruled c.args.setting.now.diagram.now.nodes c.args.setting.now.decision ++ c.args.goals.now =
     nodes_are c.args.goals.now c.deref-2.ensures.value c.in_ok-extend_from_slice.ensures.items c.in_ok-nodes.ensures.items c.deref.ensures.value c.requires.joint.ruled in
-    subst (λ (vs : List ℕ). StepsHold both_kind (states_of c.args.setting.now.diagram.now.nodes) c.deref-3.result.now (tables_at both_run c.args.setting.now.diagram.now.nodes c.args.setting.now.base.now vs)) (sym list)
-    (subst (λ (steps : List ℕ). StepsHold both_kind (states_of c.args.setting.now.diagram.now.nodes) steps (tables_at both_run c.args.setting.now.diagram.now.nodes c.args.setting.now.base.now (joint_ruled c.args.setting.now.diagram.now.nodes c.args.setting.now.decision ++ c.args.goals.now))) (sym c.deref-3.ensures.value) (steps_hold c.args.setting.now.diagram.now c.args.setting.now.base.now c.args.setting.now.decision c.args.setting.now.totals.now c.args.setting.now.scope c.requires.setting c.args.goals.now c.requires.goals c.args.self.now.total c.requires.joint.total c.requires.fits c.args.self.now.steps.items c.requires.joint.order))
+    subst (λ (vs : List ℕ). StepsHold both_kind (states_of c.args.setting.now.diagram.now.nodes) c.args.self.now.steps.now (tables_at both_run c.args.setting.now.diagram.now.nodes c.args.setting.now.base.now vs)) (sym list)
+    (steps_hold c.args.setting.now.diagram.now c.args.setting.now.base.now c.args.setting.now.decision c.args.setting.now.totals.now c.args.setting.now.scope c.requires.setting c.args.goals.now c.requires.goals c.args.self.now.total c.requires.joint.total c.requires.fits c.args.self.now.steps.now c.requires.joint.order)
 
 pub sum_tables-slot-requires-clause-fits : goal.sum_tables-slot-requires-clause-fits
 sum_tables-slot-requires-clause-fits c =
     let list : c.deref-2.result.now ≡ joint_ruled c.args.setting.now.diagram.now.nodes c.args.setting.now.decision ++ c.args.goals.now =
     nodes_are c.args.goals.now c.deref-2.ensures.value c.in_ok-extend_from_slice.ensures.items c.in_ok-nodes.ensures.items c.deref.ensures.value c.requires.joint.ruled in
-    subst (λ (vs : List ℕ). StepsFit both_kind both_kind.size (states_of c.args.setting.now.diagram.now.nodes) most_size c.deref-3.result.now (tables_at both_run c.args.setting.now.diagram.now.nodes c.args.setting.now.base.now vs)) (sym list)
-    (subst (λ (steps : List ℕ). StepsFit both_kind both_kind.size (states_of c.args.setting.now.diagram.now.nodes) most_size steps (tables_at both_run c.args.setting.now.diagram.now.nodes c.args.setting.now.base.now (joint_ruled c.args.setting.now.diagram.now.nodes c.args.setting.now.decision ++ c.args.goals.now))) (sym c.deref-3.ensures.value) (steps_fit c.args.setting.now.diagram.now c.args.setting.now.base.now c.args.setting.now.decision c.args.setting.now.totals.now c.args.setting.now.scope c.requires.setting c.args.goals.now c.requires.goals c.args.self.now.total c.requires.joint.total c.requires.fits c.args.self.now.steps.items c.requires.joint.order))
+    subst (λ (vs : List ℕ). StepsFit both_kind both_kind.size (states_of c.args.setting.now.diagram.now.nodes) most_size c.args.self.now.steps.now (tables_at both_run c.args.setting.now.diagram.now.nodes c.args.setting.now.base.now vs)) (sym list)
+    (steps_fit c.args.setting.now.diagram.now c.args.setting.now.base.now c.args.setting.now.decision c.args.setting.now.totals.now c.args.setting.now.scope c.requires.setting c.args.goals.now c.requires.goals c.args.self.now.total c.requires.joint.total c.requires.fits c.args.self.now.steps.now c.requires.joint.order)
 
 pub add_gains-requires-clause-scope : goal.add_gains-requires-clause-scope
 add_gains-requires-clause-scope c =
     let list : c.deref-2.result.now ≡ joint_ruled c.args.setting.now.diagram.now.nodes c.args.setting.now.decision ++ c.args.goals.now =
     nodes_are c.args.goals.now c.deref-2.ensures.value c.in_ok-extend_from_slice.ensures.items c.in_ok-nodes.ensures.items c.deref.ensures.value c.requires.joint.ruled in
-    let so : SumsTables both_run c.args.setting.now.diagram.now.nodes c.args.setting.now.base.now (joint_ruled c.args.setting.now.diagram.now.nodes c.args.setting.now.decision ++ c.args.goals.now) c.args.self.now.steps.items c.sum_tables-slot.new.work c.in-Some.slot =
-    subst (λ (steps : List ℕ). SumsTables both_run c.args.setting.now.diagram.now.nodes c.args.setting.now.base.now (joint_ruled c.args.setting.now.diagram.now.nodes c.args.setting.now.decision ++ c.args.goals.now) steps c.sum_tables-slot.new.work c.in-Some.slot) c.deref-3.ensures.value
-    (subst (λ (vs : List ℕ). SumsTables both_run c.args.setting.now.diagram.now.nodes c.args.setting.now.base.now vs c.deref-3.result.now c.sum_tables-slot.new.work c.in-Some.slot) list c.in-Some.ensures.some) in
-    slot_scope c.args.setting.now.diagram.now c.args.setting.now.base.now c.args.setting.now.decision c.args.setting.now.totals.now c.args.setting.now.scope c.requires.setting c.args.goals.now c.requires.goals c.args.self.now.total c.requires.joint.total c.requires.fits c.args.self.now.steps.items c.requires.joint.order c.sum_tables-slot.new.work c.in-Some.slot so
+    let so : SumsTables both_run c.args.setting.now.diagram.now.nodes c.args.setting.now.base.now (joint_ruled c.args.setting.now.diagram.now.nodes c.args.setting.now.decision ++ c.args.goals.now) c.args.self.now.steps.now c.sum_tables-slot.new.work c.in-Some.slot =
+    subst (λ (vs : List ℕ). SumsTables both_run c.args.setting.now.diagram.now.nodes c.args.setting.now.base.now vs c.args.self.now.steps.now c.sum_tables-slot.new.work c.in-Some.slot) list c.in-Some.ensures.some in
+    slot_scope c.args.setting.now.diagram.now c.args.setting.now.base.now c.args.setting.now.decision c.args.setting.now.totals.now c.args.setting.now.scope c.requires.setting c.args.goals.now c.requires.goals c.args.self.now.total c.requires.joint.total c.requires.fits c.args.self.now.steps.now c.requires.joint.order c.sum_tables-slot.new.work c.in-Some.slot so
 
 pub add_gains-requires-clause-room : goal.add_gains-requires-clause-room
 add_gains-requires-clause-room c =
     let list : c.deref-2.result.now ≡ joint_ruled c.args.setting.now.diagram.now.nodes c.args.setting.now.decision ++ c.args.goals.now =
     nodes_are c.args.goals.now c.deref-2.ensures.value c.in_ok-extend_from_slice.ensures.items c.in_ok-nodes.ensures.items c.deref.ensures.value c.requires.joint.ruled in
-    let so : SumsTables both_run c.args.setting.now.diagram.now.nodes c.args.setting.now.base.now (joint_ruled c.args.setting.now.diagram.now.nodes c.args.setting.now.decision ++ c.args.goals.now) c.args.self.now.steps.items c.sum_tables-slot.new.work c.in-Some.slot =
-    subst (λ (steps : List ℕ). SumsTables both_run c.args.setting.now.diagram.now.nodes c.args.setting.now.base.now (joint_ruled c.args.setting.now.diagram.now.nodes c.args.setting.now.decision ++ c.args.goals.now) steps c.sum_tables-slot.new.work c.in-Some.slot) c.deref-3.ensures.value
-    (subst (λ (vs : List ℕ). SumsTables both_run c.args.setting.now.diagram.now.nodes c.args.setting.now.base.now vs c.deref-3.result.now c.sum_tables-slot.new.work c.in-Some.slot) list c.in-Some.ensures.some) in
-    slot_room c.args.setting.now.diagram.now c.args.setting.now.base.now c.args.setting.now.decision c.args.setting.now.totals.now c.args.setting.now.scope c.requires.setting c.args.goals.now c.requires.goals c.args.self.now.total c.requires.joint.total c.requires.fits c.args.self.now.steps.items c.requires.joint.order c.sum_tables-slot.new.work c.in-Some.slot so c.plans_keep_scopes.ensures.decisions c.plans_keep_scopes.ensures.positive c.args.gains.now c.requires.room
+    let so : SumsTables both_run c.args.setting.now.diagram.now.nodes c.args.setting.now.base.now (joint_ruled c.args.setting.now.diagram.now.nodes c.args.setting.now.decision ++ c.args.goals.now) c.args.self.now.steps.now c.sum_tables-slot.new.work c.in-Some.slot =
+    subst (λ (vs : List ℕ). SumsTables both_run c.args.setting.now.diagram.now.nodes c.args.setting.now.base.now vs c.args.self.now.steps.now c.sum_tables-slot.new.work c.in-Some.slot) list c.in-Some.ensures.some in
+    slot_room c.args.setting.now.diagram.now c.args.setting.now.base.now c.args.setting.now.decision c.args.setting.now.totals.now c.args.setting.now.scope c.requires.setting c.args.goals.now c.requires.goals c.args.self.now.total c.requires.joint.total c.requires.fits c.args.self.now.steps.now c.requires.joint.order c.sum_tables-slot.new.work c.in-Some.slot so c.plans_keep_scopes.ensures.decisions c.plans_keep_scopes.ensures.positive c.args.gains.now c.requires.room
 
 pub returns-in-Some-clause-adds : goal.returns-in-Some-clause-adds
 returns-in-Some-clause-adds c =
     let list : c.deref-2.result.now ≡ joint_ruled c.args.setting.now.diagram.now.nodes c.args.setting.now.decision ++ c.args.goals.now =
     nodes_are c.args.goals.now c.deref-2.ensures.value c.in_ok-extend_from_slice.ensures.items c.in_ok-nodes.ensures.items c.deref.ensures.value c.requires.joint.ruled in
-    let so : SumsTables both_run c.args.setting.now.diagram.now.nodes c.args.setting.now.base.now (joint_ruled c.args.setting.now.diagram.now.nodes c.args.setting.now.decision ++ c.args.goals.now) c.args.self.now.steps.items c.sum_tables-slot.new.work c.in-Some.slot =
-    subst (λ (steps : List ℕ). SumsTables both_run c.args.setting.now.diagram.now.nodes c.args.setting.now.base.now (joint_ruled c.args.setting.now.diagram.now.nodes c.args.setting.now.decision ++ c.args.goals.now) steps c.sum_tables-slot.new.work c.in-Some.slot) c.deref-3.ensures.value
-    (subst (λ (vs : List ℕ). SumsTables both_run c.args.setting.now.diagram.now.nodes c.args.setting.now.base.now vs c.deref-3.result.now c.sum_tables-slot.new.work c.in-Some.slot) list c.in-Some.ensures.some) in
+    let so : SumsTables both_run c.args.setting.now.diagram.now.nodes c.args.setting.now.base.now (joint_ruled c.args.setting.now.diagram.now.nodes c.args.setting.now.decision ++ c.args.goals.now) c.args.self.now.steps.now c.sum_tables-slot.new.work c.in-Some.slot =
+    subst (λ (vs : List ℕ). SumsTables both_run c.args.setting.now.diagram.now.nodes c.args.setting.now.base.now vs c.args.self.now.steps.now c.sum_tables-slot.new.work c.in-Some.slot) list c.in-Some.ensures.some in
     subst (λ (us : List ℕ). AddsGoals c.args.setting.now.diagram.now.nodes c.args.setting.now.base.now c.args.setting.now.decision us c.args.gains.now c.add_gains.new.gains) (sym (take_all (length c.args.goals.now) c.args.goals.now (omega arith)))
-    (slot_adds c.args.setting.now.diagram.now c.args.setting.now.base.now c.args.setting.now.decision c.args.setting.now.totals.now c.args.setting.now.scope c.requires.setting c.args.goals.now c.requires.goals c.args.self.now.total c.requires.joint.total c.requires.fits c.args.self.now.steps.items c.requires.joint.order c.sum_tables-slot.new.work c.in-Some.slot so c.args.gains.now c.add_gains.new.gains c.in_ok-add_gains-in-Some.ensures.adds)
+    (slot_adds c.args.setting.now.diagram.now c.args.setting.now.base.now c.args.setting.now.decision c.args.setting.now.totals.now c.args.setting.now.scope c.requires.setting c.args.goals.now c.requires.goals c.args.self.now.total c.requires.joint.total c.requires.fits c.args.self.now.steps.now c.requires.joint.order c.sum_tables-slot.new.work c.in-Some.slot so c.args.gains.now c.add_gains.new.gains c.in_ok-add_gains-in-Some.ensures.adds)
 
 pub sum_tables-slot-requires-clause-profile : goal.sum_tables-slot-requires-clause-profile
 sum_tables-slot-requires-clause-profile c = c.requires.setting.profile

@@ -4,7 +4,7 @@ use Rattle.maid_model.specs.Nodes.{states_of, IsDecision}
 use Rattle.maid_model.specs.Views.{AnswerView, SolvedView}
 use Rattle.rule_solver.specs.Sums.{IsRowGains}
 use Rattle.rule_solver.specs.Rooms.{AreReady, HasRoomForDecision}
-use Rattle.size_precheck.specs.Sizes.{ArePlansOf}
+use Rattle.size_precheck.specs.Decisions.{AreDecisionPlans}
 use Rattle.threshold.specs.Answers.{HoldsAtFraction}
 use Rattle.threshold.specs.Held.{AreBestIn}
 use Rattle.threshold.proofs.Narrowing.{narrows_map}
@@ -29,7 +29,7 @@ row_gains_by-requires-clause-profile c =
 pub row_gains_by-requires-clause-planned : goal.row_gains_by-requires-clause-planned
 row_gains_by-requires-clause-planned c =
     let q = c.args.self.now in
-    subst (λ v. ArePlansOf q.nought.now.nodes v c.args.plans.now.rows c.args.plans.now.goals.items) (sym (ap (λ (a : AnswerView). a.decision) c.answer.view_is))
+    subst (λ v. AreDecisionPlans q.nought.now.nodes v c.args.plans.now) (sym (ap (λ (a : AnswerView). a.decision) c.answer.view_is))
     (plans_nought q.diagram.now q.solved.now q.place q.nought.now q.one.now c.requires.setting.setting c.args.answer.now c.requires.answer c.kept_plans_stand.ensures c.args.plans.now c.requires.planned)
 
 pub row_gains_by-requires-clause-ready : goal.row_gains_by-requires-clause-ready
@@ -50,7 +50,7 @@ row_gains_by-requires-2-clause-profile c =
 pub row_gains_by-requires-2-clause-planned : goal.row_gains_by-requires-2-clause-planned
 row_gains_by-requires-2-clause-planned c =
     let q = c.args.self.now in
-    subst (λ v. ArePlansOf q.one.now.nodes v c.args.plans.now.rows c.args.plans.now.goals.items) (sym (ap (λ (a : AnswerView). a.decision) c.answer.view_is))
+    subst (λ v. AreDecisionPlans q.one.now.nodes v c.args.plans.now) (sym (ap (λ (a : AnswerView). a.decision) c.answer.view_is))
     (plans_one q.diagram.now q.solved.now q.place q.nought.now q.one.now c.requires.setting.setting c.args.answer.now c.requires.answer c.kept_plans_stand.ensures c.args.plans.now c.requires.planned)
 
 pub row_gains_by-requires-2-clause-ready : goal.row_gains_by-requires-2-clause-ready
