@@ -72,7 +72,7 @@ module _ (ranks : List ℕ) (count : ℕ) where
   filed_append : (at new : List NodeSet) (xs : List Slot) (s : Slot) (place : ℕ) → length new ≡ length at → length xs ≡ place → Filed ranks count at xs
       → ((v k : ℕ) (none : NodeSet) → v < length at → IsIn (slice_index_or new v none) k ↔ (IsIn (slice_index_or at v none) k ⊎ ((k ≡ place) × IsFirstOf ranks count (holds s.scope) v)))
       → Filed ranks count new (xs ++ s ∷ [])
-  filed_append at new xs s place same is h e v k none within = ((λ t. more.1 (forth ((e v k none l).0 t))), (λ t. (e v k none l).1 (back (more.0 t))))
+  filed_append at new xs s place same is h e v k none within early = ((λ t. more.1 (forth ((e v k none l).0 t))), (λ t. (e v k none l).1 (back (more.0 t))))
     where
       more : IsFirstOf ranks count (scope_at (xs ++ s ∷ []) k) v ↔ (IsFirstOf ranks count (scope_at xs k) v ⊎ ((k ≡ length xs) × IsFirstOf ranks count (holds s.scope) v))
       more = scope_append (λ scope. IsFirstOf ranks count scope v) (λ f. absurd (let g = f.0 in cc)) xs s k
@@ -81,11 +81,11 @@ module _ (ranks : List ℕ) (count : ℕ) where
       l = omega (arith, within, same)
 
       forth : (IsIn (slice_index_or at v none) k ⊎ ((k ≡ place) × IsFirstOf ranks count (holds s.scope) v)) → (IsFirstOf ranks count (scope_at xs k) v ⊎ ((k ≡ length xs) × IsFirstOf ranks count (holds s.scope) v))
-      forth (inl m) = inl ((h v k none l).0 m)
+      forth (inl m) = inl ((h v k none l early).0 m)
       forth (inr m) = inr (m.0 ∙ sym is, m.1)
 
       back : (IsFirstOf ranks count (scope_at xs k) v ⊎ ((k ≡ length xs) × IsFirstOf ranks count (holds s.scope) v)) → (IsIn (slice_index_or at v none) k ⊎ ((k ≡ place) × IsFirstOf ranks count (holds s.scope) v))
-      back (inl m) = inl ((h v k none l).1 m)
+      back (inl m) = inl ((h v k none l early).1 m)
       back (inr m) = inr (m.0 ∙ is, m.1)
 
   -- the next of a list
@@ -136,21 +136,24 @@ module _ {ranks steps : List ℕ} {count : ℕ} (ranking : IsRanking ranks steps
     abbrev node : ℕ
     node = slice_index steps i
 
+    early : rank_of ranks count node ≤ i
+    early = omega (arith, rank node, ranking.first i l)
+
     -- of a scope without the nodes of earlier steps, which holds this step's node, that is the first
     first_here : (scope : ℕ → Bool) → NoneBefore ranks count i scope → scope node ≡ true → IsFirstOf ranks count scope node
     first_here scope none t = (t, omega (arith, early, l, all), λ v h. omega (arith, early, none v h))
-      where
-        early : rank_of ranks count node ≤ i
-        early = omega (arith, rank node, ranking.first i l)
 
     -- so, as no live slot holds the nodes of earlier steps, the live ones filed under it are those that hold it
     pub tells_holders : {at : List NodeSet} {slots : List Slot} {live : NodeSet} {made : ℕ} → IsBoard ranks count at slots live made → made ≤ length slots → node < length at → AllLater ranks count i (live_slots live made slots)
         → (k : ℕ) (none : NodeSet) → IsIn live k → holds (slice_index_or at node none) k ≡ scope_at (take made slots) k node
     tells_holders {at} {slots} {live} {made} board within small later k none t =
         one_test (holds (slice_index_or at node none) k) (scope_at (take made slots) k node)
-        (λ h. ((board.filed node k none small).0 h).0)
-        (λ h. (board.filed node k none small).1 (first_here (scope_at (take made slots) k) here h))
+        (λ h. ((board.filed node k none small has_rank).0 h).0)
+        (λ h. (board.filed node k none small has_rank).1 (first_here (scope_at (take made slots) k) here h))
       where
+        has_rank : rank_of ranks count node < count
+        has_rank = omega (arith, early, l, all)
+
         here : NoneBefore ranks count i (scope_at (take made slots) k)
         here = scope_here (NoneBefore ranks count i) (holds live) 0 (take made slots) (each_of (λ s. NoneBefore ranks count i (holds s.scope)) (live_slots live made slots) later) k
             (omega (arith, board.within k t, length-take-le made slots within)) (ap (holds live) (from_nought k) ∙ t)

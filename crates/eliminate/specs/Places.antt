@@ -60,9 +60,15 @@ abbrev pub IsBlank : List NodeSet → Type 0
 IsBlank at = (v k : ℕ) (none : NodeSet) → v < length at
     → holds (slice_index_or at v none) k ≡ false
 
--- for each node of those that the list is for, the places of the slots of which it is the first node
+-- no node of a step has a place
+abbrev pub IsBlankFor : List ℕ → ℕ → List NodeSet → Type 0
+IsBlankFor ranks count at = (v k : ℕ) (none : NodeSet) → v < length at
+    → rank_of ranks count v < count → holds (slice_index_or at v none) k ≡ false
+
+-- for each node of a step, the places of the slots of which it is the first node
 abbrev pub Filed : List ℕ → ℕ → List NodeSet → List Slot → Type 0
 Filed ranks count at slots = (v k : ℕ) (none : NodeSet) → v < length at
+    → rank_of ranks count v < count
     → IsIn (slice_index_or at v none) k ↔ IsFirstOf ranks count (scope_at slots k) v
 
 -- the place is added to those of the scope's first node

@@ -11,7 +11,7 @@ use std::marker::Model;
 /// to know of what another has left.
 #[derive(Drop)]
 pub struct RunLists {
-    /// For each node the places of the slots that are filed under it.
+    /// For each node of a step the places of the slots that are filed under it.
     pub(crate) at: Vec<NodeSet>,
     /// For each node its first position among the steps, or how many these are where it has none.
     pub(crate) ranks: Vec<usize>,

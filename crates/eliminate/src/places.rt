@@ -4,7 +4,7 @@
 ghost use Rattle.std.specs.Prelude.{◌≡◌, ◌+◌, ◌<◌, ◌≤◌, ◌↔◌, ℕ, [], ◌∷◌, ◌++◌, length, take, All, MatchOption};
 ghost use Rattle.node_sets.specs.declared.sets.TheConstants.{MOST_NODES};
 ghost use Rattle.node_sets.specs.Sets.{holds, IsIn};
-ghost use Rattle.eliminate.specs.Places.{slots_from, slots_at, AreApart, ArePlacesOf, Filed, FilesPlace, IsBlank, IsBoard, IsFirstOf, IsRanking, NoneBefore};
+ghost use Rattle.eliminate.specs.Places.{slots_from, slots_at, AreApart, ArePlacesOf, Filed, FilesPlace, IsBlank, IsBlankFor, IsBoard, IsFirstOf, IsRanking, NoneBefore};
 
 use crate::lists::before;
 use factor_core::Slot;
@@ -56,16 +56,20 @@ pub fn gather_live(slots: &[Slot], places: &Places, found: &mut [Slot]) -> usize
     gather(before(slots, places.made), &places.live, found)
 }
 
-/// Writes for each node its first position among the steps, or how many these are where it has none.
-pub fn set_ranks(ranks: &mut [usize], steps: &[usize])
-    requires { All (λ v. v < length ranks.old) steps.now }
-    ensures { IsRanking ranks.new steps.now }
+/// Writes for each node its first position among the steps, or how many these are where it has none, and takes the places
+/// of the steps' nodes away. No slot is ever filed under another node.
+pub fn set_order(ranks: &mut [usize], at: &mut [NodeSet], steps: &[usize])
+    requires same { length at.old ≡ length ranks.old }
+    requires steps { All (λ v. v < length ranks.old) steps.now }
+    ensures ranking { IsRanking ranks.new steps.now }
+    ensures blank { IsBlankFor ranks.new (length steps.now) at.new }
 {
     for v in 0..ranks.len() {
         ranks[v] = steps.len();
     }
     for i in (0..steps.len()).rev() {
         ranks[steps[i]] = i;
+        at[steps[i]] = NodeSet::empty();
     }
 }
 
@@ -106,7 +110,7 @@ fn file_place(at: &mut [NodeSet], order: &Order, scope: &NodeSet, place: usize)
 }
 
 /// Takes the places of all nodes away.
-pub fn clear(at: &mut [NodeSet])
+fn clear(at: &mut [NodeSet])
     ensures { IsBlank at.new }
 {
     for v in 0..at.len() {
@@ -118,7 +122,7 @@ pub fn clear(at: &mut [NodeSet])
 fn file_slots(at: &mut [NodeSet], order: &Order, slots: &[Slot])
     requires same { length at.old ≡ length order.now.ranks.now }
     requires apart { AreApart order.now.ranks.now order.now.count }
-    requires blank { IsBlank at.old }
+    requires blank { IsBlankFor order.now.ranks.now order.now.count at.old }
     requires slots { length slots.now ≤ MOST_NODES }
     ensures { Filed order.now.ranks.now order.now.count at.new slots.now }
 {
@@ -145,7 +149,7 @@ pub fn all_live(slots: &[Slot], at: &mut [NodeSet], order: &Order, made: usize) 
     requires apart { AreApart order.now.ranks.now order.now.count }
     requires made { made ≤ length slots.now }
     requires few { made ≤ MOST_NODES }
-    requires blank { IsBlank at.old }
+    requires blank { IsBlankFor order.now.ranks.now order.now.count at.old }
     ensures made { result.made ≡ made }
     ensures board { IsBoard order.now.ranks.now order.now.count at.new slots.now result.live result.made }
     ensures live { slots_at result slots.now ≡ take made slots.now }

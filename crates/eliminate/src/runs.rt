@@ -6,14 +6,12 @@ ghost use Rattle.maid_model.specs.Profiles.{IsProfile};
 ghost use Rattle.node_sets.specs.declared.sets.TheConstants.{MOST_NODES};
 ghost use Rattle.size_precheck.specs.Sizes.{CanBePlanned, IsMade};
 ghost use Rattle.eliminate.specs.Results.{plan_total, SumsPlanIn};
-ghost use Rattle.eliminate.specs.Places.{IsBlank, IsBoard, IsRanking, TellsHolders};
+ghost use Rattle.eliminate.specs.Places.{IsBlankFor, IsBoard, IsRanking, TellsHolders};
 ghost use Rattle.eliminate.specs.Steps.{first_nodes, CanJoinLive, Joins};
 
 use crate::firsts::{Play, first_tables};
 use crate::lists::{RunLists, before};
-use crate::places::{
-    Order, Places, all_live, clear, gather, gather_live, places_of, put_slot, set_ranks,
-};
+use crate::places::{Order, Places, all_live, gather, gather_live, places_of, put_slot, set_order};
 use cell_rings::Cell;
 use factor_core::{Slot, Workspace};
 use maid_model::{Diagram, Profile};
@@ -71,7 +69,7 @@ fn run_with<C: Cell>(
     joined: &mut [Slot],
 ) -> Slot
     requires nodes { length diagram.now.nodes ≤ length at.old }
-    requires blank { IsBlank at.old }
+    requires blank { IsBlankFor order.now.ranks.now order.now.count at.old }
     requires same { length at.old ≡ length order.now.ranks.now }
     requires ranking { IsRanking order.now.ranks.now plan.now.steps }
     requires count { order.now.count ≡ length plan.now.steps }
@@ -96,8 +94,8 @@ fn run_with<C: Cell>(
     work.product(diagram, before(joined, count))
 }
 
-/// The run of the plan with lists for any number of nodes. Of the nodes that there are it clears the places and sets the ranks.
-fn run_cleared<C: Cell>(
+/// The run of the plan with lists for any number of nodes, into which it first writes the order of its steps.
+fn run_in_order<C: Cell>(
     work: &mut Workspace<C>,
     plan: &Plan,
     diagram: &Diagram,
@@ -120,9 +118,8 @@ fn run_cleared<C: Cell>(
     ensures { SumsPlanIn C.Cell diagram.now profile.now plan.now work.old work.new result }
 {
     let (at, _) = at.split_at_mut(diagram.count());
-    clear(at);
     let (ranks, _) = ranks.split_at_mut(diagram.count());
-    set_ranks(ranks, plan.steps());
+    set_order(ranks, at, plan.steps());
     let order = Order {
         ranks,
         count: plan.steps().len(),
@@ -134,7 +131,7 @@ fn run_cleared<C: Cell>(
 /// (variable elimination: Zhang and Poole 1996). The slot is over the kept nodes, the lowest slowest, and in each world
 /// its cell is the sum, over the states of the plan's other nodes, of the product of the plan's tables. The plan's cells,
 /// of which the count has not stopped, must be within the room that is left, and as many are appended. It multiplies and
-/// adds cells about as often as the plan's work counts, clears the lists as far as there are nodes, and takes no memory.
+/// adds cells about as often as the plan's work counts, sets the lists as far as there are nodes, and takes no memory.
 pub fn run_plan<C: Cell>(
     work: &mut Workspace<C>,
     lists: &mut RunLists,
@@ -150,7 +147,7 @@ pub fn run_plan<C: Cell>(
     requires fits { 2 * plan_total diagram.now.nodes profile.now plan.now.plan ≤ C.ring.most }
     ensures { SumsPlanIn C.Cell diagram.now profile.now plan.now work.old work.new result }
 {
-    run_cleared(
+    run_in_order(
         work,
         plan,
         diagram,

@@ -8,14 +8,14 @@ ghost use Rattle.node_sets.specs.Sets.{IsIn};
 ghost use Rattle.factor_core.specs.Operations.{NumbersFit};
 ghost use Rattle.factor_core.specs.Slots.{IsLiveSlot, ProductOfFits, AppendsProduct};
 ghost use Rattle.eliminate.specs.Limits.{scopes_at, live_scopes, IsFirstScope, ListsOrNone, SpendsStep, SpendsProduct, IsProductTooMuch};
-ghost use Rattle.eliminate.specs.Places.{slots_at, IsBlank, IsRanking, TellsHolders};
+ghost use Rattle.eliminate.specs.Places.{slots_at, IsBlankFor, IsRanking, TellsHolders};
 ghost use Rattle.eliminate.specs.Steps.{NumbersFitIn};
 ghost use Rattle.eliminate.specs.Results.{Grows, FindTablesIn, NoneIffTooMuch, SumsFitIn, SumsIfSome};
 
 use crate::counts::{Limits, count_cells, spend};
 use crate::firsts::{Play, put_table};
 use crate::lists::{RunLists, before};
-use crate::places::{Order, Places, all_live, clear, gather, gather_live, places_of, set_ranks};
+use crate::places::{Order, Places, all_live, gather, gather_live, places_of, set_order};
 use crate::runs::eliminate;
 use cell_rings::Cell;
 use factor_core::{Slot, Workspace, united_scope};
@@ -145,7 +145,7 @@ fn sum_with<C: Cell>(
     joined: &mut [Slot],
 ) -> Option<Slot>
     requires at { length diagram.now.nodes ≤ length at.old }
-    requires blank { IsBlank at.old }
+    requires blank { IsBlankFor order.now.ranks.now order.now.count at.old }
     requires same { length at.old ≡ length order.now.ranks.now }
     requires ranking { IsRanking order.now.ranks.now steps.now }
     requires count { order.now.count ≡ length steps.now }
@@ -175,8 +175,8 @@ fn sum_with<C: Cell>(
     multiply_live(work, diagram, slots, joined, &places, left)
 }
 
-/// The sum with lists for any number of nodes. Of the nodes that there are it clears the places and sets the ranks.
-fn sum_cleared<C: Cell>(
+/// The sum with lists for any number of nodes, into which it first writes the order of its steps.
+fn sum_in_order<C: Cell>(
     work: &mut Workspace<C>,
     diagram: &Diagram,
     profile: &Profile,
@@ -206,9 +206,8 @@ fn sum_cleared<C: Cell>(
     ensures grows { Grows C.ring diagram.now.nodes work.old work.new }
 {
     let (at, _) = at.split_at_mut(diagram.count());
-    clear(at);
     let (ranks, _) = ranks.split_at_mut(diagram.count());
-    set_ranks(ranks, steps);
+    set_order(ranks, at, steps);
     let order = Order {
         ranks,
         count: steps.len(),
@@ -244,7 +243,7 @@ pub fn sum_tables<C: Cell>(
     ensures none { NoneIffTooMuch C.Cell diagram.now profile.now nodes.now steps.now limits result }
     ensures grows { Grows C.ring diagram.now.nodes work.old work.new }
 {
-    sum_cleared(
+    sum_in_order(
         work,
         diagram,
         profile,

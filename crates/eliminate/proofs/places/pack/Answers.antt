@@ -37,7 +37,7 @@ pub all_live-requires-clause-apart : goal.all_live-requires-clause-apart
 all_live-requires-clause-apart c = c.requires.board.apart
 
 pub all_live-requires-clause-blank : goal.all_live-requires-clause-blank
-all_live-requires-clause-blank c = c.clear.ensures
+all_live-requires-clause-blank c v k none l ranked = c.clear.ensures v k none l
 
 pub returns-clause-board : goal.returns-clause-board
 returns-clause-board c = c.all_live.ensures.board

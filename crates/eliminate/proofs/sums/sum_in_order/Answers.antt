@@ -1,4 +1,4 @@
-use Rattle.eliminate.proofs.sums.sum_cleared.Goals as goal
+use Rattle.eliminate.proofs.sums.sum_in_order.Goals as goal
 
 pub returns : goal.returns
 returns g c = c.sum_with.ensures
