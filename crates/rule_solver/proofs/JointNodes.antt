@@ -13,7 +13,7 @@ use Rattle.maid_model.specs.declared.diagrams.Kind.TheVariants.{Chance, Decision
 use Rattle.maid_model.specs.Bounds.{bound_by, bound_factor}
 use Rattle.maid_model.specs.Diagrams.{greatest_number}
 use Rattle.maid_model.specs.Graph.{AllDifferent, Arc, IsGraph, IsPathTo, Here, Along}
-use Rattle.maid_model.specs.Nodes.{IsDecision, is_utility, node_at, numbers_of, parents_of, states_of}
+use Rattle.maid_model.specs.Nodes.{IsDecision, is_utility, node_at, numbers_of, states_of}
 use Rattle.maid_model.specs.Parts.{leads_to}
 use Rattle.maid_model.specs.Relevance.{IsGoal}
 use Rattle.maid_model.specs.Scopes.{IsInScope, goals_of, scope_of, scope_product}
@@ -25,11 +25,11 @@ use Rattle.factor_core.specs.Slots.{nodes_in}
 use Rattle.part_laws.proofs.NaturalSums.{product_le, some_factors_le}
 use Rattle.part_laws.proofs.ScopeBounds.{factors_positive}
 use Rattle.part_laws.proofs.ScopeLaws.{scopes_law}
-use Rattle.plan_sums.specs.Plans.{eliminated_nodes, gain_plan, has}
+use Rattle.plan_sums.specs.Plans.{eliminated_nodes, gain_plan}
 use Rattle.plan_sums.proofs.Filters.{filter_cong, filter_filter}
 use Rattle.joint_sums.specs.Joint.{IsJointOrder, joint_ruled, joint_summed, scope_nodes}
 use Rattle.joint_sums.proofs.PlanSteps.{summed_by_plans}
-use Rattle.joint_sums.proofs.ScopeNodes.{inside, no_utility, scope_nodes_are, node_within}
+use Rattle.joint_sums.proofs.ScopeNodes.{inside, no_utility, scope_nodes_are}
 use Rattle.size_precheck.specs.Decisions.{IsStepOf}
 use Rattle.size_precheck.specs.Sizes.{IsPlanned, SizedPlan, goal_list}
 use Rattle.scope_sums.proofs.Shares.{tested_product}
