@@ -1,6 +1,7 @@
 -- Slots filed under the first of their nodes that a run eliminates.
 use Rattle.std.proofs.Common.{◌≡◌, ◌∙◌, ◌↔◌, ◌⊎◌, ℕ, zero, suc, ◌+◌, ◌<◌, ◌≤◌, Bool, true, false, not, ◌||◌, cond, eqb, List, [], ◌∷◌, ◌++◌, take, set, length, get_or, slice_index, slice_index_or, refl, sym, ap, subst, inl, inr, arith}
 use Rattle.std.specs.List.{list_any}
+use Rattle.std.specs.Prelude.{All}
 use Rattle.std.proofs.lemmas.Grind.{get_or_default_zero}
 use Rattle.std.proofs.lemmas.List.{get_or_past, take_more, take_more_set, length-take-le}
 use Rattle.std.proofs.lemmas.Bool.{eq-eqb}
@@ -11,9 +12,13 @@ use Rattle.node_sets.specs.declared.sets.NodeSet.{NodeSet}
 use Rattle.node_sets.specs.Sets.{holds, IsIn}
 use Rattle.factor_core.specs.declared.slots.Slot.{Slot}
 use Rattle.factor_core.specs.Slots.{WorkspaceView, tables_of}
-use Rattle.eliminate.specs.Places.{slots_from, live_slots, scope_at, rank_of, IsRanking, AreApart, NoneBefore, IsFirstOf, AllLater, Filed, IsBoard}
+use Rattle.eliminate.specs.Places.{slots_from, live_slots, scope_at, rank_of, IsRanking, AreApart, NoneBefore, IsFirstOf, Filed, IsBoardBy}
 use Rattle.eliminate.specs.Steps.{slots_with, slots_without, GiveWay}
 use Rattle.eliminate.proofs.Placing.{one_test, first_passes, second_passes, passes_not, from_nought}
+
+-- no slot holds a node that is eliminated before the step of that number
+abbrev pub AllLater : List ℕ → ℕ → ℕ → List Slot → Type 0
+AllLater ranks count step slots = All (λ s. NoneBefore ranks count step (holds s.scope)) slots
 
 -- a fact of the scope at a place, one slot more at the end: it is one of those before, or the last
 scope_append : (P : (ℕ → Bool) → Type 0) → (P (λ v. false) → ⊥) → (xs : List Slot) (s : Slot) (k : ℕ) → P (scope_at (xs ++ s ∷ []) k) ↔ (P (scope_at xs k) ⊎ ((k ≡ length xs) × P (holds s.scope)))
@@ -144,7 +149,7 @@ module _ {ranks steps : List ℕ} {count : ℕ} (ranking : IsRanking ranks steps
     first_here scope none t = (t, omega (arith, early, l, all), λ v h. omega (arith, early, none v h))
 
     -- so, as no live slot holds the nodes of earlier steps, the live ones filed under it are those that hold it
-    pub tells_holders : {at : List NodeSet} {slots : List Slot} {live : NodeSet} {made : ℕ} → IsBoard ranks count at slots live made → made ≤ length slots → node < length at → AllLater ranks count i (live_slots live made slots)
+    pub tells_holders : {at : List NodeSet} {slots : List Slot} {live : NodeSet} {made : ℕ} → IsBoardBy ranks count at slots live made → made ≤ length slots → node < length at → AllLater ranks count i (live_slots live made slots)
         → (k : ℕ) (none : NodeSet) → IsIn live k → holds (slice_index_or at node none) k ≡ scope_at (take made slots) k node
     tells_holders {at} {slots} {live} {made} board within small later k none t =
         one_test (holds (slice_index_or at node none) k) (scope_at (take made slots) k node)

@@ -1,15 +1,16 @@
 -- Limits on cells and work, as private contracts see them. Only these cite this file.
-use Rattle.std.specs.Prelude.{◌≡◌, ◌⊎◌, ℕ, ◌+◌, ◌-◌, ◌*◌, ◌<◌, ◌≤◌, Bool, List, [], map, take, length, sum_by, Option, MatchOption, SomeIff}
+use Rattle.std.specs.Prelude.{◌≡◌, ◌⊎◌, ℕ, ◌+◌, ◌-◌, ◌*◌, ◌<◌, ◌≤◌, Bool, List, [], map, take, length, sum_by, Option, MatchOption, SomeIff, All, IfSome}
 use Rattle.std.specs.List.{list_any}
 use Rattle.node_sets.specs.declared.sets.NodeSet.{NodeSet}
 use Rattle.node_sets.specs.Sets.{holds}
-use Rattle.maid_model.specs.Views.{NodeView, RuleView}
+use Rattle.maid_model.specs.Views.{DiagramView, NodeView, RuleView}
 use Rattle.cell_rings.specs.declared.cells.Cell.{Ghosts}
+use Rattle.cell_rings.specs.Rings.{Ring}
 use Rattle.ring_sums.specs.Tables.{joined_without}
 use Rattle.plan_sums.specs.Plans.{Cells, mass_cells}
 use Rattle.factor_core.specs.declared.slots.Slot.{Slot}
 use Rattle.factor_core.specs.Operations.{cells_of, first_table}
-use Rattle.factor_core.specs.Slots.{WorkspaceView}
+use Rattle.factor_core.specs.Slots.{WorkspaceView, AppendsProduct, IsLiveSlot, ProductOfFits}
 use Rattle.size_precheck.specs.Counts.{counted_cells}
 use Rattle.size_precheck.specs.Greedy.{holding, joined_set}
 use Rattle.eliminate.specs.declared.counts.Limits.{Limits}
@@ -82,3 +83,21 @@ ListsOrNone kind p before now slots vs limits result = MatchOption result
     (limits.cells < sum_by (first_cells (cells_of kind) p.diagram.now.nodes p.profile.now) vs)
     (ListsWithin (cells_of kind) p.diagram.now.nodes p.profile.now before now
     (take (length vs) slots) [] vs limits)
+
+-- ---- the product of the live slots
+-- what it asks
+pub record CanMultiplyLive {C : Type 0}
+    (r : Ring C) (d : DiagramView) (work : WorkspaceView C) (places : Places) (slots : List Slot) :
+    Type 0 where
+  pub live : All (IsLiveSlot d.nodes work.cells) (slots_at places slots)
+  pub fits : ProductOfFits r d.nodes (slots_at places slots) work
+
+-- where there is a slot, it is that of their product, which was appended
+abbrev pub MultipliesIfSome : {C : Type 0} → Ring C → DiagramView → WorkspaceView C
+    → WorkspaceView C → Places → List Slot → Option Slot → Type 0
+MultipliesIfSome r d before after places slots result =
+    IfSome result (AppendsProduct r d.nodes (slots_at places slots) before after)
+
+-- it asks for more than what is left
+abbrev pub AreLiveTooMuch : DiagramView → Places → List Slot → Limits → Type 0
+AreLiveTooMuch d places slots left = IsProductTooMuch d.nodes (live_scopes places slots) left

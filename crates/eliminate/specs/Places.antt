@@ -1,8 +1,9 @@
 -- Slots at places, of which a set tells the live ones, each filed under one node. Only private contracts cite this file.
-use Rattle.std.specs.Prelude.{◌≡◌, ℕ, zero, suc, ◌<◌, ◌≤◌, ◌++◌, Bool, true, false, List, [], ◌∷◌, length, take, slice_index, slice_index_or, if◌then◌else◌, ◌↔◌, ◌⊎◌, All}
+use Rattle.std.specs.Prelude.{◌≡◌, ℕ, zero, suc, ◌<◌, ◌≤◌, ◌++◌, Bool, true, false, List, [], ◌∷◌, length, take, slice_index, slice_index_or, if◌then◌else◌, ◌↔◌, ◌⊎◌}
 use Rattle.node_sets.specs.declared.sets.NodeSet.{NodeSet}
 use Rattle.node_sets.specs.Sets.{holds, IsIn}
 use Rattle.factor_core.specs.declared.slots.Slot.{Slot}
+use Rattle.eliminate.specs.declared.places.Order.{Order}
 use Rattle.eliminate.specs.declared.places.Places.{Places}
 
 -- the slots of the list at the places that pass; its first one stands at place i
@@ -50,10 +51,6 @@ abbrev pub IsFirstOf : List ℕ → ℕ → (ℕ → Bool) → ℕ → Type 0
 IsFirstOf ranks count scope v = (scope v ≡ true) × (rank_of ranks count v < count)
     × NoneBefore ranks count (rank_of ranks count v) scope
 
--- no slot holds a node that is eliminated before the step of that number
-abbrev pub AllLater : List ℕ → ℕ → ℕ → List Slot → Type 0
-AllLater ranks count step slots = All (λ s. NoneBefore ranks count step (holds s.scope)) slots
-
 -- ---- slots filed under their first nodes
 -- no node of those that the list is for has a place
 abbrev pub IsBlank : List NodeSet → Type 0
@@ -78,13 +75,18 @@ FilesPlace ranks count scope place before after = (v k : ℕ) (none : NodeSet) �
     ↔ (IsIn (slice_index_or before v none) k ⊎ ((k ≡ place) × IsFirstOf ranks count scope v))
 
 -- the first `made` slots are filed, by ranks that tell nodes apart, and live ones are among them
-pub record IsBoard
+pub record IsBoardBy
     (ranks : List ℕ) (count : ℕ) (at : List NodeSet) (slots : List Slot) (live : NodeSet)
     (made : ℕ) : Type 0 where
   pub same : length at ≡ length ranks
   pub apart : AreApart ranks count
   pub filed : Filed ranks count at (take made slots)
   pub within : (k : ℕ) → IsIn live k → k < made
+
+-- so they are by the ranks of the order
+abbrev pub IsBoard : Order → List NodeSet → List Slot → Places → Type 0
+IsBoard order at slots places =
+    IsBoardBy order.ranks.now order.count at slots places.live places.made
 
 -- the set has the live places among those of the node
 abbrev pub ArePlacesOf : List NodeSet → Places → ℕ → NodeSet → Type 0

@@ -151,7 +151,7 @@ pub fn all_live(slots: &[Slot], at: &mut [NodeSet], order: &Order, made: usize) 
     requires few { made ≤ MOST_NODES }
     requires blank { IsBlankFor order.now.ranks.now order.now.count at.old }
     ensures made { result.made ≡ made }
-    ensures board { IsBoard order.now.ranks.now order.now.count at.new slots.now result.live result.made }
+    ensures board { IsBoard order.now at.new slots.now result }
     ensures live { slots_at result slots.now ≡ take made slots.now }
 {
     file_slots(at, order, before(slots, made));
@@ -169,11 +169,11 @@ fn pack(
     places: Places,
     spare: &mut [Slot],
 ) -> Places
-    requires board { IsBoard order.now.ranks.now order.now.count at.old slots.old places.live places.made }
+    requires board { IsBoard order.now at.old slots.old places }
     requires made { places.made ≤ length slots.old }
     requires slots { length slots.old ≤ MOST_NODES }
     requires spare { length spare.old ≡ length slots.old }
-    ensures board { IsBoard order.now.ranks.now order.now.count at.new slots.new result.live result.made }
+    ensures board { IsBoard order.now at.new slots.new result }
     ensures made { result.made ≡ length (slots_at places slots.old) }
     ensures live { slots_at result slots.new ≡ slots_at places slots.old }
 {
@@ -194,12 +194,12 @@ pub fn put_slot(
     spare: &mut [Slot],
     slot: &Slot,
 ) -> Places
-    requires board { IsBoard order.now.ranks.now order.now.count at.old slots.old places.live places.made }
+    requires board { IsBoard order.now at.old slots.old places }
     requires made { places.made ≤ length slots.old }
     requires few { length (slots_at places slots.old) < length slots.old }
     requires slots { length slots.old ≤ MOST_NODES }
     requires spare { length spare.old ≡ length slots.old }
-    ensures board { IsBoard order.now.ranks.now order.now.count at.new slots.new result.live result.made }
+    ensures board { IsBoard order.now at.new slots.new result }
     ensures made { result.made ≤ length slots.old }
     ensures live { slots_at result slots.new ≡ slots_at places slots.old ++ slot.now ∷ [] }
 {
@@ -219,10 +219,10 @@ fn put_behind(
     places: Places,
     slot: &Slot,
 ) -> Places
-    requires board { IsBoard order.now.ranks.now order.now.count at.old slots.old places.live places.made }
+    requires board { IsBoard order.now at.old slots.old places }
     requires made { places.made < length slots.old }
     requires slots { length slots.old ≤ MOST_NODES }
-    ensures board { IsBoard order.now.ranks.now order.now.count at.new slots.new result.live result.made }
+    ensures board { IsBoard order.now at.new slots.new result }
     ensures made { result.made ≡ places.made + 1 }
     ensures live { slots_at result slots.new ≡ slots_at places slots.old ++ slot.now ∷ [] }
 {

@@ -36,14 +36,14 @@ pub fn eliminate<C: Cell>(
     places: Places,
     node: usize,
 ) -> Places
-    requires board { IsBoard order.now.ranks.now order.now.count at.old slots.old places.live places.made }
+    requires board { IsBoard order.now at.old slots.old places }
     requires made { places.made ≤ length slots.old }
     requires slots { length slots.old ≤ MOST_NODES }
     requires joined { length joined.old ≡ length slots.old }
     requires node { node < length at.old }
     requires held { TellsHolders at.old places slots.old node }
     requires join { CanJoinLive C.ring play.now work.old places slots.old node }
-    ensures board { IsBoard order.now.ranks.now order.now.count at.new slots.new result.live result.made }
+    ensures board { IsBoard order.now at.new slots.new result }
     ensures made { result.made ≤ length slots.old }
     ensures step { Joins C.ring play.now work.old work.new places slots.old result slots.new node }
 {

@@ -1,14 +1,13 @@
 //! Sums of tables of any nodes, within limits that the caller sets.
 
-ghost use Rattle.std.specs.Prelude.{◌≡◌, ◌↔◌, ℕ, ◌<◌, ◌≤◌, All, length, None, IfSome};
+ghost use Rattle.std.specs.Prelude.{◌≡◌, ◌↔◌, ℕ, ◌<◌, ◌≤◌, All, length, None};
 ghost use Rattle.maid_model.specs.declared.limits.TheConstants.{MOST_PLAN_CELLS};
 ghost use Rattle.maid_model.specs.Profiles.{IsProfile};
 ghost use Rattle.node_sets.specs.declared.sets.TheConstants.{MOST_NODES};
 ghost use Rattle.node_sets.specs.Sets.{IsIn};
 ghost use Rattle.factor_core.specs.Operations.{NumbersFit};
-ghost use Rattle.factor_core.specs.Slots.{IsLiveSlot, ProductOfFits, AppendsProduct};
-ghost use Rattle.eliminate.specs.Limits.{scopes_at, live_scopes, IsFirstScope, ListsOrNone, SpendsStep, SpendsProduct, IsProductTooMuch};
-ghost use Rattle.eliminate.specs.Places.{slots_at, IsBlankFor, IsRanking, TellsHolders};
+ghost use Rattle.eliminate.specs.Limits.{scopes_at, live_scopes, AreLiveTooMuch, CanMultiplyLive, IsFirstScope, ListsOrNone, MultipliesIfSome, SpendsProduct, SpendsStep};
+ghost use Rattle.eliminate.specs.Places.{IsBlankFor, IsRanking, TellsHolders};
 ghost use Rattle.eliminate.specs.Steps.{NumbersFitIn};
 ghost use Rattle.eliminate.specs.Results.{Grows, FindTablesIn, NoneIffTooMuch, SumsFitIn, SumsIfSome};
 
@@ -117,12 +116,11 @@ fn multiply_live<C: Cell>(
     requires made { places.now.made ≤ length slots.now }
     requires slots { length slots.now ≤ MOST_NODES }
     requires joined { length joined.old ≡ length slots.now }
-    requires live { All (IsLiveSlot diagram.now.nodes work.old.cells) (slots_at places.now slots.now) }
-    requires fits { ProductOfFits C.ring diagram.now.nodes (slots_at places.now slots.now) work.old }
+    requires product { CanMultiplyLive C.ring diagram.now work.old places.now slots.now }
     requires small { left.cells ≤ MOST_PLAN_CELLS }
     requires room { left.cells ≤ work.old.spare }
-    ensures some { IfSome result (AppendsProduct C.ring diagram.now.nodes (slots_at places.now slots.now) work.old work.new) }
-    ensures none { (result ≡ None) ↔ IsProductTooMuch diagram.now.nodes (live_scopes places.now slots.now) left }
+    ensures some { MultipliesIfSome C.ring diagram.now work.old work.new places.now slots.now result }
+    ensures none { (result ≡ None) ↔ AreLiveTooMuch diagram.now places.now slots.now left }
     ensures grows { Grows C.ring diagram.now.nodes work.old work.new }
 {
     let count = gather_live(slots, places, joined);

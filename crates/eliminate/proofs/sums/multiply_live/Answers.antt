@@ -9,7 +9,7 @@ use Rattle.eliminate.proofs.Growing.{grows_none, grows_table}
 use Rattle.eliminate.proofs.Multiplying.{product_room, product_refused, product_allowed}
 use Rattle.eliminate.proofs.sums.multiply_live.Goals as goal
 
--- what is gathered are the live slots: a fact of these is one of what is multiplied
+-- What is gathered are the live slots: a fact of these is one of what is multiplied.
 
 -- a slot that there is
 is_some_slot : (s : Slot) → Some s ≡ None → ⊥
@@ -47,10 +47,10 @@ pub product-requires-clause-few : goal.product-requires-clause-few
 product-requires-clause-few g c = at_most c.gather_live-count.result MOST_NODES c.gather_live-count.new.found c.before-last.ensures (omega (arith, c.gather_live-count.ensures.few, c.requires.slots))
 
 pub product-requires-clause-live : goal.product-requires-clause-live
-product-requires-clause-live g c = subst (λ (l : List Slot). All (IsLiveSlot c.args.diagram.now.nodes c.args.work.now.cells) l) (sym (c.before-last.ensures ∙ c.gather_live-count.ensures.list)) c.requires.live
+product-requires-clause-live g c = subst (λ (l : List Slot). All (IsLiveSlot c.args.diagram.now.nodes c.args.work.now.cells) l) (sym (c.before-last.ensures ∙ c.gather_live-count.ensures.list)) c.requires.product.live
 
 pub product-requires-clause-fits : goal.product-requires-clause-fits
-product-requires-clause-fits g c = subst (λ (l : List Slot). ProductOfFits g.C.Cell.ring c.args.diagram.now.nodes l c.args.work.now) (sym (c.before-last.ensures ∙ c.gather_live-count.ensures.list)) c.requires.fits
+product-requires-clause-fits g c = subst (λ (l : List Slot). ProductOfFits g.C.Cell.ring c.args.diagram.now.nodes l c.args.work.now) (sym (c.before-last.ensures ∙ c.gather_live-count.ensures.list)) c.requires.product.fits
 
 pub product-requires-clause-room : goal.product-requires-clause-room
 product-requires-clause-room g c = product_room c.args.diagram.now.nodes c.before-last.result.now g.C.Cell.ring c.args.work.now c.args.left c.in_ok-spend_on_product.ensures.0.0 c.requires.small c.requires.room

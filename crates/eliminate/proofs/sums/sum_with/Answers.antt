@@ -154,11 +154,11 @@ multiply_live-requires-clause-slots g c = subst (λ n. n ≤ MOST_NODES) (sym c.
 pub multiply_live-requires-clause-joined : goal.multiply_live-requires-clause-joined
 multiply_live-requires-clause-joined g c = c.loop-node.invariant.joined ∙ c.requires.joined ∙ sym c.loop-node.invariant.slots
 
-pub multiply_live-requires-clause-live : goal.multiply_live-requires-clause-live
-multiply_live-requires-clause-live g c = c.loop-node.invariant.sum.between.stand.live
-
-pub multiply_live-requires-clause-fits : goal.multiply_live-requires-clause-fits
-multiply_live-requires-clause-fits g c = product_fits g.met.C.Cell.laws (no_step c.loop-node.node-index c.loop-node.invariant.sum c.loop-node-test.false)
+pub multiply_live-requires-clause-product : goal.multiply_live-requires-clause-product
+multiply_live-requires-clause-product g c = record {
+  live = c.loop-node.invariant.sum.between.stand.live;
+  fits = product_fits g.met.C.Cell.laws (no_step c.loop-node.node-index c.loop-node.invariant.sum c.loop-node-test.false);
+}
 
 pub multiply_live-requires-clause-small : goal.multiply_live-requires-clause-small
 multiply_live-requires-clause-small g c = left_small c.loop-node.invariant.sum c.requires.small
