@@ -15,7 +15,7 @@ use Rattle.rule_solver.specs.declared.decision_sums.Setting.{Setting}
 use Rattle.rule_solver.specs.declared.joint_goals.JointSums.{JointSums}
 use Rattle.rule_solver.specs.declared.spaces.Workspaces.{Workspaces}
 use Rattle.rule_solver.specs.Rooms.{AreReadyFor, AreReadyForDecision, AreReadyForGoals, IsReadyFor}
-use Rattle.rule_solver.specs.Sums.{AddsGoals, AreRowGains, AreRowSums, HasGoals, HasMasses, HasRoomForGoals, IsSetting, KeepsRoom}
+use Rattle.rule_solver.specs.Sums.{AddsGoals, AreRowGains, AreRowSums, HasGoals, HasMasses, HasRoomForGoals, IsSetting, KeepsRowRoom}
 use Rattle.rule_solver.specs.Together.{IsJoint}
 
 -- what the setting has is right
@@ -132,5 +132,4 @@ AreRowGainsIn s gains = AreRowGains s.diagram.now.nodes s.base.now s.decision ga
 
 -- they keep the weight bound, and the P of the scope
 abbrev pub KeepsRoomIn : Setting → RowSums → Type 0
-KeepsRoomIn s sums =
-    KeepsRoom s.diagram.now.nodes s.decision sums.gains.items sums.masses.items
+KeepsRoomIn s sums = KeepsRowRoom s.diagram.now.nodes s.decision sums

@@ -62,6 +62,10 @@ pub record KeepsRoom
       ≤ scope_product nodes d * greatest_of nodes (goals_of nodes d)
   pub mass_there : (row : ℕ) → row < length masses → slice_index masses row ≤ scope_product nodes d
 
+-- so do those of a decision's sums
+abbrev pub KeepsRowRoom : List NodeView → ℕ → RowSums → Type 0
+KeepsRowRoom nodes d sums = KeepsRoom nodes d sums.gains.items sums.masses.items
+
 -- ---- a setting
 -- a decision and a profile whose other rules are small, within the bound, with the totals of all nodes and the
 -- decision's scope

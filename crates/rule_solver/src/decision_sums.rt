@@ -9,7 +9,7 @@ ghost use Rattle.part_laws.specs.ScopeLaws.{HasSmallRules};
 ghost use Rattle.size_precheck.specs.Decisions.{AreDecisionPlans, ListsStepsOrNone};
 ghost use Rattle.rule_solver.specs.Rooms.{AreLeft, AreReadyForDecision, HasRoomForDecision};
 ghost use Rattle.rule_solver.specs.Settings.{AddsGoalsIn, AreGoalPlansIn, ArePlansIn, AreReadyForDecisionIn, AreReadyForGoal, AreReadyForGoalsIn, AreReadyForRows, AreRowGainsIn, AreRowSumsIn, HasGoalsIn, HasMassesIn, HasRoomForGoalsIn, HoldsSetting, IsGoalIn, IsPlannedForGoal, IsPlannedForRows, IsReadyForGoal, IsReadyForRows, KeepsRoomIn, goals_in, lacking_in_goal, lacking_in_rows, total_in};
-ghost use Rattle.rule_solver.specs.Sums.{AreRowSums, AreRowGains, KeepsRoom};
+ghost use Rattle.rule_solver.specs.Sums.{AreRowSums, AreRowGains, KeepsRowRoom};
 
 use crate::joint_goals::{add_together, list_goals};
 use crate::numbers::Number;
@@ -337,7 +337,7 @@ pub fn row_sums_by(
     requires planned { AreDecisionPlans diagram.now.nodes decision plans.now }
     requires ready { AreReadyForDecision diagram.now.nodes decision spaces.old }
     ensures sums { IfOk result (AreRowSums diagram.now.nodes profile.now decision) }
-    ensures room { IfOk result (λ sums. KeepsRoom diagram.now.nodes decision sums.gains.items sums.masses.items) }
+    ensures room { IfOk result (KeepsRowRoom diagram.now.nodes decision) }
     ensures again { OnOk result (spaces.new ≡ spaces.old) }
 {
     let totals = list_totals(alloc, diagram, profile)?;

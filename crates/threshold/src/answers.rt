@@ -99,7 +99,7 @@ impl<'a> Question<'a> {
 
     /// The same, by plans of the decision that are made here, in workspaces that another decision
     /// has left, where they have the room. It leaves its own.
-    fn narrow_planned(
+    fn narrow(
         &self,
         alloc: Global,
         relevance: &Relevance,
@@ -126,35 +126,9 @@ impl<'a> Question<'a> {
         Ok(held)
     }
 
-    /// The same, without a plan or a sum where the answer surely holds at all fractions: then the
-    /// interval stays as it is.
-    fn narrow(
-        &self,
-        alloc: Global,
-        relevance: &Relevance,
-        planner: &Planner,
-        held: Held,
-        answer: &Answer,
-        left: &mut Option<Workspaces>,
-    ) -> Result<Held, AllocError>
-        requires setting { IsQuestion self.now }
-        requires relevance { IsRelevance self.now.diagram.now.nodes relevance.now }
-        requires planner { IsPlanner self.now.diagram.now.nodes planner.now }
-        requires room { KeepsPlanCells self.now }
-        requires answer { IsAnswerOf self.now.solved.now answer.now }
-        requires left { AreLeft left.old }
-        requires range { IsRange held }
-        ensures held { IfOk result (Narrows (HoldsAnswer self.now answer.now) held) }
-        ensures left { AreLeft left.new }
-    {
-        if self.stands(answer) {
-            return Ok(held);
-        }
-        self.narrow_planned(alloc, relevance, planner, held, answer, left)
-    }
-
-    /// The fractions from 0 to 1 at which all answers hold. A decision whose answer may not hold at
-    /// all of them is planned when its turn comes, and leaves its workspaces to the next.
+    /// The fractions from 0 to 1 at which all answers hold. A decision whose answer surely holds at
+    /// all of them has neither plan nor sum; another is planned when its turn comes, and leaves its
+    /// workspaces to the next.
     fn narrow_all(
         &self,
         alloc: Global,
@@ -172,7 +146,9 @@ impl<'a> Question<'a> {
         let mut held = all_fractions();
         let mut left = None;
         for answer in &solved.answers {
-            held = self.narrow(alloc, relevance, planner, held, answer, &mut left)?;
+            if !self.stands(answer) {
+                held = self.narrow(alloc, relevance, planner, held, answer, &mut left)?;
+            }
         }
         Ok(held)
     }

@@ -2,6 +2,7 @@ use Rattle.std.proofs.Common.{◌≡◌, ◌∙◌, ◌<◌, ◌≤◌, length, 
 use Rattle.maid_model.specs.Answers.{answered}
 use Rattle.maid_model.specs.Views.{SolvedView}
 use Rattle.threshold.proofs.Assembling.{held_more, held_end, of_list, held_start}
+use Rattle.threshold.proofs.Standing.{narrows_by_nothing}
 use Rattle.threshold.proofs.answers.Question.narrow_all.Goals as goal
 
 pub loop-answer-preserved : goal.loop-answer-preserved
