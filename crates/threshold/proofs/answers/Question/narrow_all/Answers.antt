@@ -1,19 +1,28 @@
-use Rattle.std.proofs.Common.{◌≡◌, ◌∙◌, ◌<◌, ◌≤◌, length, slice_index_or, ap, subst}
+use Rattle.std.proofs.Common.{◌≡◌, ◌∙◌, ◌+◌, ◌<◌, ◌≤◌, length, slice_index_or, ap, subst, sym}
 use Rattle.maid_model.specs.Answers.{answered}
 use Rattle.maid_model.specs.Views.{SolvedView}
-use Rattle.threshold.proofs.Assembling.{held_more, held_end, of_list, held_start}
+use Rattle.rule_solver.specs.Rooms.{AreLeft}
+use Rattle.threshold.specs.declared.held.Held.{Held}
+use Rattle.threshold.proofs.Assembling.{HeldSoFar, held_more, held_end, of_list, held_start}
 use Rattle.threshold.proofs.Standing.{narrows_by_nothing}
 use Rattle.threshold.proofs.answers.Question.narrow_all.Goals as goal
+use Rattle.threshold.proofs.answers.Question.narrow_all.Goals.{then-not-stands+in_ok-held, else-not-stands}
 
 pub loop-answer-preserved : goal.loop-answer-preserved
 loop-answer-preserved c =
     let q = c.args.self.now in
     let items : c.deref-answer-items.result.now ≡ q.solved.now.answers = c.deref-answer-items.ensures.value ∙ ap (λ (s : SolvedView). s.answers) c.solved.view_is in
-    record {
-      held = held_more q.diagram.now q.solved.now q.place c.requires.setting.setting.answer.fits c.loop-answer.answer-index c.loop-answer.held c.in_ok-held.held c.answer-item.result
-          (subst (λ l. c.loop-answer.answer-index < length l) items c.loop-answer-test.true) (c.answer-item.is ∙ ap (λ l. slice_index_or l c.loop-answer.answer-index c.answer-item.result) items) c.loop-answer.invariant.held c.in_ok-held.ensures.held;
-      left = c.narrow.ensures.left;
-    }
+    let within : c.loop-answer.answer-index < length q.solved.now.answers = subst (λ l. c.loop-answer.answer-index < length l) items c.loop-answer-test.true in
+    let is = c.answer-item.is ∙ ap (λ l. slice_index_or l c.loop-answer.answer-index c.answer-item.result) items in
+    let So_far = HeldSoFar q.diagram.now.nodes (answered q.diagram.now q.solved.now) q.place q.solved.now.answers (c.loop-answer.answer-index + 1) in
+    let more = (λ (held : Held). held_more q.diagram.now q.solved.now q.place c.requires.setting.setting.answer.fits c.loop-answer.answer-index c.loop-answer.held held c.answer-item.result within is c.loop-answer.invariant.held) in
+    elim c.if-not-stands.branch [
+      | then-not-stands+in_ok-held w ↦ record { held = subst So_far (sym w.held-is) (more w.in_ok-held.held w.in_ok-held.ensures.held); left = subst AreLeft (sym w.left-is) w.narrow.ensures.left }
+      | else-not-stands w ↦
+          let answer = of_list q.diagram.now q.solved.now q.place c.requires.setting.setting.answer.fits c.loop-answer.answer-index c.answer-item.result within is in
+          let stays = narrows_by_nothing q c.requires.setting c.answer-item.result answer (c.stands.ensures.0 w.if-not-stands.false) c.loop-answer.held c.loop-answer.invariant.held.narrows.range in
+          record { held = subst So_far (sym w.held-is) (more c.loop-answer.held stays); left = subst AreLeft (sym w.left-is) c.loop-answer.invariant.left }
+    ]
 
 pub returns-clause-held : goal.returns-clause-held
 returns-clause-held c =
