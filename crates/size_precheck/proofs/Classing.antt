@@ -1,6 +1,6 @@
 -- Classes of equal cells, as a node leaves or comes.
 use Rattle.std.proofs.Common.{◌≡◌, ◌∙◌, ◌⊎◌, ◌↔◌, ℕ, zero, suc, eqb, ltb, cond, ◌&&◌, ◌+◌, ◌-◌, ◌<◌, ◌≤◌, Bool, true, false, List, [], length, get_or, Option, Some, None, refl, sym, ap, subst, inl, inr, arith}
-use Rattle.std.specs.Prelude.{slice_index, MatchOption}
+use Rattle.std.specs.Prelude.{MatchOption}
 use Rattle.std.specs.List.{insert, remove}
 use Rattle.std.proofs.Math.Path.{fun_ext}
 use Rattle.std.proofs.lemmas.Bool.{cases_lt, cases_eq}
@@ -14,7 +14,7 @@ use Rattle.size_precheck.proofs.Somewhere.{same_test, and_both}
 use Rattle.size_precheck.specs.Classes.{class_at, no_class, AreClasses, IsFewest, IsLess, IsRecounted}
 
 -- ---- the next
-pub next_found : (counts : List ℕ) (waits : ℕ → Bool) (classes : List Class) (i v : ℕ) → AreClasses counts waits classes → i < length classes → ((k : ℕ) → k < i → (w : ℕ) → IsIn (class_at classes k).nodes w → ⊥)
+pub next_found : (counts : ℕ → ℕ) (waits : ℕ → Bool) (classes : List Class) (i v : ℕ) → AreClasses counts waits classes → i < length classes → ((k : ℕ) → k < i → (w : ℕ) → IsIn (class_at classes k).nodes w → ⊥)
     → IsFirstFrom (class_at classes i).nodes 0 v → IsFewest counts waits v
 next_found counts waits classes i v are within empty found = record {
   waiting = here.0;
@@ -22,10 +22,10 @@ next_found counts waits classes i v are within empty found = record {
   first = λ w m less. strict w m less;
 }
   where
-    here : (waits v ≡ true) × (slice_index counts v ≡ (class_at classes i).cells)
+    here : (waits v ≡ true) × (counts v ≡ (class_at classes i).cells)
     here = (are.nodes i within v).0 found.inside
 
-    place : (w : ℕ) → waits w ≡ true → (k : ℕ) × (k < length classes) × ((class_at classes k).cells ≡ slice_index counts w)
+    place : (w : ℕ) → waits w ≡ true → (k : ℕ) × (k < length classes) × ((class_at classes k).cells ≡ counts w)
     place w m = are.all w m
 
     not_before : (w : ℕ) → (m : waits w ≡ true) → i ≤ (place w m).0
@@ -34,8 +34,8 @@ next_found counts waits classes i v are within empty found = record {
       | inr g ↦ g
     ]
 
-    low : (w : ℕ) → (m : waits w ≡ true) → i ≤ (place w m).0 → slice_index counts v ≤ slice_index counts w
-    low w m l = elim (cases_eq i (place w m).0) as (λ _. slice_index counts v ≤ slice_index counts w) [
+    low : (w : ℕ) → (m : waits w ≡ true) → i ≤ (place w m).0 → counts v ≤ counts w
+    low w m l = elim (cases_eq i (place w m).0) as (λ _. counts v ≤ counts w) [
       | inl e ↦
           let a : (class_at classes i).cells ≡ (class_at classes (place w m).0).cells = ap (λ k. (class_at classes k).cells) e in
           let b = here.1 in
@@ -51,8 +51,8 @@ next_found counts waits classes i v are within empty found = record {
         apart : (a b : ℕ) → a ≤ b → (a ≡ b → ⊥) → a < b
         apart a b l n = grind arith
 
-    strict : (w : ℕ) → waits w ≡ true → w < v → slice_index counts v < slice_index counts w
-    strict w m less = elim (cases_eq (slice_index counts v) (slice_index counts w)) as (λ _. slice_index counts v < slice_index counts w) [
+    strict : (w : ℕ) → waits w ≡ true → w < v → counts v < counts w
+    strict w m less = elim (cases_eq (counts v) (counts w)) as (λ _. counts v < counts w) [
       | inl e ↦ absurd (found.first w (omega arith) less ((are.nodes i within w).1 (m, sym e ∙ here.1)))
       | inr n ↦ apart _ _ (low w m (not_before w m)) n
     ]
@@ -60,7 +60,7 @@ next_found counts waits classes i v are within empty found = record {
         apart : (a b : ℕ) → a ≤ b → (a ≡ b → ⊥) → a < b
         apart a b l n = grind arith
 
-pub next_none : (counts : List ℕ) (waits : ℕ → Bool) (classes : List Class) → AreClasses counts waits classes → ((k : ℕ) → k < length classes → (w : ℕ) → IsIn (class_at classes k).nodes w → ⊥) → (v : ℕ) → waits v ≡ true → ⊥
+pub next_none : (counts : ℕ → ℕ) (waits : ℕ → Bool) (classes : List Class) → AreClasses counts waits classes → ((k : ℕ) → k < length classes → (w : ℕ) → IsIn (class_at classes k).nodes w → ⊥) → (v : ℕ) → waits v ≡ true → ⊥
 next_none counts waits classes are empty v m =
     let a = are.all v m in
     empty a.0 a.1 v ((are.nodes a.0 a.1 v).1 (m, sym a.2))
@@ -70,7 +70,7 @@ abbrev Where : List Class → List Class → ℕ → Class → ℕ → Type 0
 Where classes classes' place class i = ((i < place) × (class_at classes' i ≡ class_at classes i)) ⊎ (((i ≡ place) × (class_at classes' i ≡ class)) ⊎ ((k : ℕ) × (place ≤ k) × (k < length classes) × (i ≡ k + 1) × (class_at classes' i ≡ class_at classes k)))
 
 -- ---- with and without v
-module _ (counts : List ℕ) (waits fewer : ℕ → Bool) (v cells : ℕ) (less : IsLess waits fewer v) (counted : slice_index counts v ≡ cells) where
+module _ (counts : ℕ → ℕ) (waits fewer : ℕ → Bool) (v cells : ℕ) (less : IsLess waits fewer v) (counted : counts v ≡ cells) where
   other : (x : ℕ) → fewer x ≡ true → x ≡ v → ⊥
   other x m e = less.own (subst (λ y. fewer y ≡ true) e m)
 
@@ -104,32 +104,32 @@ module _ (counts : List ℕ) (waits fewer : ℕ → Bool) (v cells : ℕ) (less 
         | inr n ↦ ap (λ (c : Class). c.cells) (same i n)
       ]
 
-      elsewhere : (i x : ℕ) → i < length classes → (i ≡ place → ⊥) → slice_index counts x ≡ (class_at classes i).cells → x ≡ v → ⊥
+      elsewhere : (i x : ℕ) → i < length classes → (i ≡ place → ⊥) → counts x ≡ (class_at classes i).cells → x ≡ v → ⊥
       elsewhere i x l n is e = elim (cases_lt i place) as (λ _. ⊥) [
         | inl b ↦
             let a = before i b in
-            let c = ap (λ y. slice_index counts y) e in
+            let c = ap counts e in
             absurd (omega (arith, is, counted))
         | inr g ↦
             let within : place < length classes = omega arith in
             let a = past within in
             let b = are.rising place i (apart place i g n) l in
-            let c = ap (λ y. slice_index counts y) e in
+            let c = ap counts e in
             absurd (omega (arith, is, counted))
       ]
         where
           apart : (a b : ℕ) → a ≤ b → (b ≡ a → ⊥) → a < b
           apart a b l n = grind arith
 
-      at : (i : ℕ) → i < length classes → (x : ℕ) → (i ≡ place) ⊎ (i ≡ place → ⊥) → IsIn (class_at classes' i).nodes x ↔ ((fewer x ≡ true) × (slice_index counts x ≡ (class_at classes' i).cells))
+      at : (i : ℕ) → i < length classes → (x : ℕ) → (i ≡ place) ⊎ (i ≡ place → ⊥) → IsIn (class_at classes' i).nodes x ↔ ((fewer x ≡ true) × (counts x ≡ (class_at classes' i).cells))
       at i l x (inl e) =
           let within : place < length classes = omega arith in
-          subst (λ k. IsIn (class_at classes' k).nodes x ↔ ((fewer x ≡ true) × (slice_index counts x ≡ (class_at classes' k).cells))) (sym e) (
+          subst (λ k. IsIn (class_at classes' k).nodes x ↔ ((fewer x ≡ true) × (counts x ≡ (class_at classes' k).cells))) (sym e) (
             (λ m. let h = (removed within x).0 m in let k = (are.nodes place within x).0 h.0 in (fewer_too x h.1 k.0, k.1 ∙ sym (cells_same within))),
             (λ h. (removed within x).1 ((are.nodes place within x).1 (more x h.0, h.1 ∙ cells_same within), other x h.0)),
           )
       at i l x (inr n) =
-          subst (λ (c : Class). IsIn c.nodes x ↔ ((fewer x ≡ true) × (slice_index counts x ≡ c.cells))) (sym (same i n)) (
+          subst (λ (c : Class). IsIn c.nodes x ↔ ((fewer x ≡ true) × (counts x ≡ c.cells))) (sym (same i n)) (
             (λ m. let k = (are.nodes i l x).0 m in (fewer_too x (elsewhere i x l n k.1) k.0, k.1)),
             (λ h. (are.nodes i l x).1 (more x h.0, h.1)),
           )
@@ -146,7 +146,7 @@ module _ (counts : List ℕ) (waits fewer : ℕ → Bool) (v cells : ℕ) (less 
         let x = ap (λ (c : Class). c.cells) a.3 in
         let y = ap (λ (c : Class). c.cells) b.3 in
         omega arith;
-    nodes = λ i l x. let a = from i l in subst (λ (c : Class). IsIn c.nodes x ↔ ((fewer x ≡ true) × (slice_index counts x ≡ c.cells))) (sym a.3) (old a.0 x a.1 a.2);
+    nodes = λ i l x. let a = from i l in subst (λ (c : Class). IsIn c.nodes x ↔ ((fewer x ≡ true) × (counts x ≡ c.cells))) (sym a.3) (old a.0 x a.1 a.2);
     all = λ x m. let a = are.all x (more x m) in found x m a.0 a.1 a.2 (cases_eq a.0 place) (cases_lt a.0 place);
   }
     where
@@ -174,26 +174,26 @@ module _ (counts : List ℕ) (waits fewer : ℕ → Bool) (v cells : ℕ) (less 
       apart : (a b : ℕ) → a ≤ b → (b ≡ a → ⊥) → a < b
       apart a b l n = grind arith
 
-      elsewhere : (i x : ℕ) → i < length classes → (i ≡ place → ⊥) → slice_index counts x ≡ (class_at classes i).cells → x ≡ v → ⊥
+      elsewhere : (i x : ℕ) → i < length classes → (i ≡ place → ⊥) → counts x ≡ (class_at classes i).cells → x ≡ v → ⊥
       elsewhere i x l n is e = elim (cases_lt i place) as (λ _. ⊥) [
         | inl b ↦
             let a = before i b in
-            let c = ap (λ y. slice_index counts y) e in
+            let c = ap counts e in
             absurd (omega (arith, is, counted))
         | inr g ↦
             let b = are.rising place i (apart place i g n) l in
-            let c = ap (λ y. slice_index counts y) e in
+            let c = ap counts e in
             absurd (omega (arith, is, counted, past))
       ]
 
-      old : (k x : ℕ) → k < length classes → (k ≡ place → ⊥) → IsIn (class_at classes k).nodes x ↔ ((fewer x ≡ true) × (slice_index counts x ≡ (class_at classes k).cells))
+      old : (k x : ℕ) → k < length classes → (k ≡ place → ⊥) → IsIn (class_at classes k).nodes x ↔ ((fewer x ≡ true) × (counts x ≡ (class_at classes k).cells))
       old k x l n = (
         (λ m. let h = (are.nodes k l x).0 m in (fewer_too x (elsewhere k x l n h.1) h.0, h.1)),
         (λ h. (are.nodes k l x).1 (more x h.0, h.1)),
       )
 
-      found : (x : ℕ) → fewer x ≡ true → (k : ℕ) → k < length classes → (class_at classes k).cells ≡ slice_index counts x → (k ≡ place) ⊎ (k ≡ place → ⊥) → (k < place) ⊎ (place ≤ k)
-          → (i : ℕ) × (i < length classes') × ((class_at classes' i).cells ≡ slice_index counts x)
+      found : (x : ℕ) → fewer x ≡ true → (k : ℕ) → k < length classes → (class_at classes k).cells ≡ counts x → (k ≡ place) ⊎ (k ≡ place → ⊥) → (k < place) ⊎ (place ≤ k)
+          → (i : ℕ) × (i < length classes') × ((class_at classes' i).cells ≡ counts x)
       found x m k l e (inl s) o = absurd (other x m (alone x ((are.nodes place within x).1 (more x m, sym e ∙ ap (λ i. (class_at classes i).cells) s))))
       found x m k l e (inr n) (inl b) = (k, omega (arith, long), ap (λ (c : Class). c.cells) (below k b) ∙ e)
       found x m k l e (inr n) (inr g) =
@@ -216,8 +216,8 @@ module _ (counts : List ℕ) (waits fewer : ℕ → Bool) (v cells : ℕ) (less 
           let d = cells_at j k in
           omega arith;
       nodes = λ i l x. at i (omega arith) x (cases_eq i place);
-      all = λ x m. elim (cases_eq x v) as (λ _. (i : ℕ) × (i < length classes') × ((class_at classes' i).cells ≡ slice_index counts x)) [
-        | inl e ↦ (place, omega arith, cells_same ∙ here ∙ sym counted ∙ ap (λ y. slice_index counts y) (sym e))
+      all = λ x m. elim (cases_eq x v) as (λ _. (i : ℕ) × (i < length classes') × ((class_at classes' i).cells ≡ counts x)) [
+        | inl e ↦ (place, omega arith, cells_same ∙ here ∙ sym counted ∙ ap counts (sym e))
         | inr n ↦ let a = are.all x (fewer_too x n m) in let l = a.1 in (a.0, omega arith, cells_at a.0 a.1 ∙ a.2)
       ];
     }
@@ -228,9 +228,9 @@ module _ (counts : List ℕ) (waits fewer : ℕ → Bool) (v cells : ℕ) (less 
           | inr n ↦ ap (λ (c : Class). c.cells) (same i n)
         ]
 
-        elsewhere : (i x : ℕ) → i < length classes → (i ≡ place → ⊥) → slice_index counts x ≡ (class_at classes i).cells → x ≡ v → ⊥
+        elsewhere : (i x : ℕ) → i < length classes → (i ≡ place → ⊥) → counts x ≡ (class_at classes i).cells → x ≡ v → ⊥
         elsewhere i x l n is e =
-            let c = ap (λ y. slice_index counts y) e in
+            let c = ap counts e in
             elim (cases_lt i place) as (λ _. ⊥) [
               | inl b ↦ let a = are.rising i place b within in absurd (omega (arith, is, counted, here))
               | inr g ↦ let a = are.rising place i (apart place i g n) l in absurd (omega (arith, is, counted, here))
@@ -239,12 +239,12 @@ module _ (counts : List ℕ) (waits fewer : ℕ → Bool) (v cells : ℕ) (less 
             apart : (a b : ℕ) → a ≤ b → (b ≡ a → ⊥) → a < b
             apart a b l n = grind arith
 
-        at : (i : ℕ) → i < length classes → (x : ℕ) → (i ≡ place) ⊎ (i ≡ place → ⊥) → IsIn (class_at classes' i).nodes x ↔ ((waits x ≡ true) × (slice_index counts x ≡ (class_at classes' i).cells))
+        at : (i : ℕ) → i < length classes → (x : ℕ) → (i ≡ place) ⊎ (i ≡ place → ⊥) → IsIn (class_at classes' i).nodes x ↔ ((waits x ≡ true) × (counts x ≡ (class_at classes' i).cells))
         at i l x (inl e) =
-            subst (λ k. IsIn (class_at classes' k).nodes x ↔ ((waits x ≡ true) × (slice_index counts x ≡ (class_at classes' k).cells))) (sym e) (
-              (λ m. elim ((added x).0 m) as (λ _. (waits x ≡ true) × (slice_index counts x ≡ (class_at classes' place).cells)) [
+            subst (λ k. IsIn (class_at classes' k).nodes x ↔ ((waits x ≡ true) × (counts x ≡ (class_at classes' k).cells))) (sym e) (
+              (λ m. elim ((added x).0 m) as (λ _. (waits x ≡ true) × (counts x ≡ (class_at classes' place).cells)) [
                 | inl o ↦ let k = (are.nodes place within x).0 o in (more x k.0, k.1 ∙ sym cells_same)
-                | inr f ↦ (ap waits f ∙ waiting, ap (λ y. slice_index counts y) f ∙ counted ∙ sym here ∙ sym cells_same)
+                | inr f ↦ (ap waits f ∙ waiting, ap counts f ∙ counted ∙ sym here ∙ sym cells_same)
               ]),
               (λ h. (added x).1 (elim (cases_eq x v) as (λ _. IsIn (class_at classes place).nodes x ⊎ (x ≡ v)) [
                 | inl f ↦ inr f
@@ -252,7 +252,7 @@ module _ (counts : List ℕ) (waits fewer : ℕ → Bool) (v cells : ℕ) (less 
               ])),
             )
         at i l x (inr n) =
-            subst (λ (c : Class). IsIn c.nodes x ↔ ((waits x ≡ true) × (slice_index counts x ≡ c.cells))) (sym (same i n)) (
+            subst (λ (c : Class). IsIn c.nodes x ↔ ((waits x ≡ true) × (counts x ≡ c.cells))) (sym (same i n)) (
               (λ m. let k = (are.nodes i l x).0 m in (more x k.0, k.1)),
               (λ h. (are.nodes i l x).1 (fewer_too x (elsewhere i x l n h.1) h.0, h.1)),
             )
@@ -264,8 +264,8 @@ module _ (counts : List ℕ) (waits fewer : ℕ → Bool) (v cells : ℕ) (less 
     put_new class made class_cells own within before past = record {
       rising = λ i j l m. rises i j l (where_is i (omega arith)) (where_is j m);
       nodes = λ i l x. at i x (where_is i l);
-      all = λ x m. elim (cases_eq x v) as (λ _. (i : ℕ) × (i < length classes') × ((class_at classes' i).cells ≡ slice_index counts x)) [
-        | inl e ↦ (place, omega (arith, long, within), ap (λ (c : Class). c.cells) here ∙ class_cells ∙ sym counted ∙ ap (λ y. slice_index counts y) (sym e))
+      all = λ x m. elim (cases_eq x v) as (λ _. (i : ℕ) × (i < length classes') × ((class_at classes' i).cells ≡ counts x)) [
+        | inl e ↦ (place, omega (arith, long, within), ap (λ (c : Class). c.cells) here ∙ class_cells ∙ sym counted ∙ ap counts (sym e))
         | inr n ↦ let a = are.all x (fewer_too x n m) in found x a.0 a.1 a.2 (cases_lt a.0 place)
       ];
     }
@@ -318,10 +318,10 @@ module _ (counts : List ℕ) (waits fewer : ℕ → Bool) (v cells : ℕ) (less 
         rises i j l (inr (inr a)) (inr (inr b)) = let e = a.3 in let f = b.3 in let x = in_cells i _ a.4 in let y = in_cells j _ b.4 in let z = are.rising a.0 b.0 (omega arith) b.2 in omega arith
 
         -- an old class, which is not that of v's cells
-        old : (k x : ℕ) → k < length classes → ((class_at classes k).cells ≡ cells → ⊥) → IsIn (class_at classes k).nodes x ↔ ((waits x ≡ true) × (slice_index counts x ≡ (class_at classes k).cells))
+        old : (k x : ℕ) → k < length classes → ((class_at classes k).cells ≡ cells → ⊥) → IsIn (class_at classes k).nodes x ↔ ((waits x ≡ true) × (counts x ≡ (class_at classes k).cells))
         old k x l n = (
           (λ m. let h = (are.nodes k l x).0 m in (more x h.0, h.1)),
-          (λ h. (are.nodes k l x).1 (fewer_too x (λ e. n (sym h.1 ∙ ap (λ y. slice_index counts y) e ∙ counted)) h.0, h.1)),
+          (λ h. (are.nodes k l x).1 (fewer_too x (λ e. n (sym h.1 ∙ ap counts e ∙ counted)) h.0, h.1)),
         )
 
         apart_below : (k : ℕ) → k < place → (class_at classes k).cells ≡ cells → ⊥
@@ -330,9 +330,9 @@ module _ (counts : List ℕ) (waits fewer : ℕ → Bool) (v cells : ℕ) (less 
         apart_after : (k : ℕ) → place ≤ k → k < length classes → (class_at classes k).cells ≡ cells → ⊥
         apart_after k g l e = let a = after k g l in absurd (omega arith)
 
-        new : (x : ℕ) → IsIn class.nodes x ↔ ((waits x ≡ true) × (slice_index counts x ≡ class.cells))
+        new : (x : ℕ) → IsIn class.nodes x ↔ ((waits x ≡ true) × (counts x ≡ class.cells))
         new x = (
-          (λ m. let e = (own x).0 m in (ap waits e ∙ waiting, ap (λ y. slice_index counts y) e ∙ counted ∙ sym class_cells)),
+          (λ m. let e = (own x).0 m in (ap waits e ∙ waiting, ap counts e ∙ counted ∙ sym class_cells)),
           (λ h. (own x).1 (elim (cases_eq x v) as (λ _. x ≡ v) [
             | inl e ↦ e
             | inr n ↦
@@ -342,18 +342,18 @@ module _ (counts : List ℕ) (waits fewer : ℕ → Bool) (v cells : ℕ) (less 
           ])),
         )
 
-        at : (i x : ℕ) → Where classes classes' place class i → IsIn (class_at classes' i).nodes x ↔ ((waits x ≡ true) × (slice_index counts x ≡ (class_at classes' i).cells))
-        at i x (inl a) = let l = a.0 in subst (λ (c : Class). IsIn c.nodes x ↔ ((waits x ≡ true) × (slice_index counts x ≡ c.cells))) (sym a.1) (old i x (omega arith) (apart_below i a.0))
-        at i x (inr (inl a)) = subst (λ (c : Class). IsIn c.nodes x ↔ ((waits x ≡ true) × (slice_index counts x ≡ c.cells))) (sym a.1) (new x)
-        at i x (inr (inr a)) = subst (λ (c : Class). IsIn c.nodes x ↔ ((waits x ≡ true) × (slice_index counts x ≡ c.cells))) (sym a.4) (old a.0 x a.2 (apart_after a.0 a.1 a.2))
+        at : (i x : ℕ) → Where classes classes' place class i → IsIn (class_at classes' i).nodes x ↔ ((waits x ≡ true) × (counts x ≡ (class_at classes' i).cells))
+        at i x (inl a) = let l = a.0 in subst (λ (c : Class). IsIn c.nodes x ↔ ((waits x ≡ true) × (counts x ≡ c.cells))) (sym a.1) (old i x (omega arith) (apart_below i a.0))
+        at i x (inr (inl a)) = subst (λ (c : Class). IsIn c.nodes x ↔ ((waits x ≡ true) × (counts x ≡ c.cells))) (sym a.1) (new x)
+        at i x (inr (inr a)) = subst (λ (c : Class). IsIn c.nodes x ↔ ((waits x ≡ true) × (counts x ≡ c.cells))) (sym a.4) (old a.0 x a.2 (apart_after a.0 a.1 a.2))
 
-        found : (x k : ℕ) → k < length classes → (class_at classes k).cells ≡ slice_index counts x → (k < place) ⊎ (place ≤ k) → (i : ℕ) × (i < length classes') × ((class_at classes' i).cells ≡ slice_index counts x)
+        found : (x k : ℕ) → k < length classes → (class_at classes k).cells ≡ counts x → (k < place) ⊎ (place ≤ k) → (i : ℕ) × (i < length classes') × ((class_at classes' i).cells ≡ counts x)
         found x k l e (inl b) = (k, omega (arith, long), in_cells k _ (below k b) ∙ e)
         found x k l e (inr g) = (k + 1, omega (arith, long), in_cells (k + 1) _ (above k g) ∙ e)
 
 -- ---- counts, and what waits
 -- counts of nodes that do not wait say nothing
-pub recounted : (counts counts' : List ℕ) (waits : ℕ → Bool) (classes : List Class) → ((x : ℕ) → waits x ≡ true → slice_index counts' x ≡ slice_index counts x) → AreClasses counts waits classes → AreClasses counts' waits classes
+pub recounted : (counts counts' : ℕ → ℕ) (waits : ℕ → Bool) (classes : List Class) → ((x : ℕ) → waits x ≡ true → counts' x ≡ counts x) → AreClasses counts waits classes → AreClasses counts' waits classes
 recounted counts counts' waits classes same are = record {
   rising = are.rising;
   nodes = λ i l v. (
@@ -438,7 +438,7 @@ number_less x n e = grind (arith, nat_tests)
 less_number : (x n : ℕ) → x < n → ltb x n ≡ true
 less_number x n l = grind (arith, nat_tests)
 
-pub no_classes : (counts : List ℕ) (nodes : NodeSet) → AreClasses counts (before_number nodes 0) []
+pub no_classes : (counts : ℕ → ℕ) (nodes : NodeSet) → AreClasses counts (before_number nodes 0) []
 no_classes counts nodes = record {
   rising = λ i j l m. absurd (omega arith);
   nodes = λ i l v. absurd (omega arith);
@@ -469,7 +469,7 @@ walked_less nodes from v first = record {
 pub walked_here : (nodes : NodeSet) (v : ℕ) → IsIn nodes v → before_number nodes (v + 1) v ≡ true
 walked_here nodes v m = and_both (holds nodes v) (ltb v (v + 1)) m (less_number v (v + 1) (omega arith))
 
-pub walked_all : (counts : List ℕ) (nodes : NodeSet) (from : ℕ) (classes : List Class) → ((v : ℕ) → from ≤ v → IsIn nodes v → ⊥) → AreClasses counts (before_number nodes from) classes → AreClasses counts (holds nodes) classes
+pub walked_all : (counts : ℕ → ℕ) (nodes : NodeSet) (from : ℕ) (classes : List Class) → ((v : ℕ) → from ≤ v → IsIn nodes v → ⊥) → AreClasses counts (before_number nodes from) classes → AreClasses counts (holds nodes) classes
 walked_all counts nodes from classes none are = subst (λ (waits : ℕ → Bool). AreClasses counts waits classes) (fun_ext same) are
   where
     early : (x : ℕ) → IsIn nodes x → (x < from) ⊎ (from ≤ x) → x < from
@@ -480,20 +480,20 @@ walked_all counts nodes from classes none are = subst (λ (waits : ℕ → Bool)
     same x = same_test _ _ (λ m. (both_true (holds nodes x) (ltb x from) m).0) (λ m. and_both (holds nodes x) (ltb x from) m (less_number x from (early x m (cases_lt x from))))
 
 -- ---- what the search for the next tells
-pub found_next : (counts : List ℕ) (waits : ℕ → Bool) (classes : List Class) (result : Option ℕ) (v : ℕ)
-    → ((counts : List ℕ) (waits : ℕ → Bool) → AreClasses counts waits classes → MatchOption result ((v : ℕ) → waits v ≡ true → ⊥) (IsFewest counts waits)) → result ≡ Some v → AreClasses counts waits classes → IsFewest counts waits v
+pub found_next : (counts : ℕ → ℕ) (waits : ℕ → Bool) (classes : List Class) (result : Option ℕ) (v : ℕ)
+    → ((counts : ℕ → ℕ) (waits : ℕ → Bool) → AreClasses counts waits classes → MatchOption result ((v : ℕ) → waits v ≡ true → ⊥) (IsFewest counts waits)) → result ≡ Some v → AreClasses counts waits classes → IsFewest counts waits v
 found_next counts waits classes result v tells is are = subst (λ (o : Option ℕ). MatchOption o ((v : ℕ) → waits v ≡ true → ⊥) (IsFewest counts waits)) is (tells counts waits are)
 
-pub none_next : (counts : List ℕ) (waits : ℕ → Bool) (classes : List Class) (result : Option ℕ)
-    → ((counts : List ℕ) (waits : ℕ → Bool) → AreClasses counts waits classes → MatchOption result ((v : ℕ) → waits v ≡ true → ⊥) (IsFewest counts waits)) → result ≡ None → AreClasses counts waits classes → (v : ℕ) → waits v ≡ true → ⊥
+pub none_next : (counts : ℕ → ℕ) (waits : ℕ → Bool) (classes : List Class) (result : Option ℕ)
+    → ((counts : ℕ → ℕ) (waits : ℕ → Bool) → AreClasses counts waits classes → MatchOption result ((v : ℕ) → waits v ≡ true → ⊥) (IsFewest counts waits)) → result ≡ None → AreClasses counts waits classes → (v : ℕ) → waits v ≡ true → ⊥
 none_next counts waits classes result tells is are = subst (λ (o : Option ℕ). MatchOption o ((v : ℕ) → waits v ≡ true → ⊥) (IsFewest counts waits)) is (tells counts waits are)
 
 -- ---- a node moves
-pub moved : (counts counts' : List ℕ) (waits : ℕ → Bool) (classes taken_out put_in : List Class) (v before after : ℕ)
-    → ((counts : List ℕ) (waits fewer : ℕ → Bool) → IsLess waits fewer v → slice_index counts v ≡ before → AreClasses counts waits classes → AreClasses counts fewer taken_out)
-    → ((counts : List ℕ) (waits fewer : ℕ → Bool) → IsLess waits fewer v → waits v ≡ true → slice_index counts v ≡ after → AreClasses counts fewer taken_out → AreClasses counts waits put_in)
-    → waits v ≡ true → IsRecounted counts counts' v before after → AreClasses counts waits classes → AreClasses counts' waits put_in
+pub moved : (counts counts' : ℕ → ℕ) (waits : ℕ → Bool) (classes taken_out put_in : List Class) (v before after : ℕ)
+    → ((counts : ℕ → ℕ) (waits fewer : ℕ → Bool) → IsLess waits fewer v → counts v ≡ before → AreClasses counts waits classes → AreClasses counts fewer taken_out)
+    → ((counts : ℕ → ℕ) (waits fewer : ℕ → Bool) → IsLess waits fewer v → waits v ≡ true → counts v ≡ after → AreClasses counts fewer taken_out → AreClasses counts waits put_in)
+    → waits v ≡ true → IsRecounted counts counts' waits v before after → AreClasses counts waits classes → AreClasses counts' waits put_in
 moved counts counts' waits classes taken_out put_in v before after takes puts waiting new are =
     let less = but_less waits v in
     puts counts' waits (but v waits) less waiting new.is
-    (recounted counts counts' (but v waits) taken_out (λ x m. new.others x (λ e. less.own (subst (λ y. but v waits y ≡ true) e m))) (takes counts waits (but v waits) less new.was are))
+    (recounted counts counts' (but v waits) taken_out (λ x m. let n : x ≡ v → ⊥ = λ e. less.own (subst (λ y. but v waits y ≡ true) e m) in new.others x (sym (less.others x n) ∙ m) n) (takes counts waits (but v waits) less new.was are))

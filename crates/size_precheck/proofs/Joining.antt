@@ -1,6 +1,5 @@
 -- The joints of nodes among the tables of some nodes, as there are more of these or fewer.
 use Rattle.std.proofs.Common.{◌≡◌, ◌≢◌, ◌∙◌, ◌⊎◌, ◌↔◌, ℕ, ◌+◌, ◌<◌, true, false, List, length, sym, subst, refl, inl, inr, arith}
-use Rattle.std.specs.Prelude.{slice_index}
 use Rattle.finite_sums.proofs.Counts.{true_or_false}
 use Rattle.maid_model.specs.declared.diagrams.Kind.TheVariants.{Utility}
 use Rattle.maid_model.specs.Graph.{IsGraph}
@@ -10,10 +9,8 @@ use Rattle.node_sets.specs.Sets.{holds, IsIn}
 use Rattle.node_sets.specs.declared.sets.NodeSet.{NodeSet}
 use Rattle.size_precheck.specs.declared.joints.Joint.{Joint}
 use Rattle.size_precheck.specs.declared.joints.Table.{Table}
-use Rattle.size_precheck.specs.declared.planners.Family.{Family}
-use Rattle.size_precheck.specs.Families.{IsJointAmong, IsNarrowed, IsOfFamily, IsRuled, IsRuledBelow}
+use Rattle.size_precheck.specs.Families.{IsJointAmong, IsOfFamily, IsRuledBelow}
 use Rattle.size_precheck.specs.Joints.{joint_at, IsPut}
-use Rattle.size_precheck.proofs.Walking.{counted_moved}
 
 module _ (nodes : List NodeView) (Of More : ℕ → Type 0) (v y : ℕ) (more : (x : ℕ) → More x ↔ (Of x ⊎ (x ≡ v))) where
   -- one more table, which holds y
@@ -60,46 +57,6 @@ module _ (nodes : List NodeView) (Of More : ℕ → Type 0) (v y : ℕ) (more : 
     where
       old : (x : ℕ) → More x → IsOfFamily nodes x y → Of x
       old x m o = elim ((more x).0 m) as (λ _. Of x) [ inl k ↦ k | inr e ↦ absurd (apart (subst (λ z. IsOfFamily nodes z y) e o)) ]
-
--- of fewer nodes, if they have all of its tables
-pub joined_fewer : (nodes : List NodeView) (Of Few : ℕ → Type 0) (y : ℕ) (joint : Joint) → ((x : ℕ) → Few x → Of x) → ((x : ℕ) → IsIn joint.tables x → Few x) → IsJointAmong nodes Of y joint → IsJointAmong nodes Few y joint
-joined_fewer nodes Of Few y joint fewer inside joined = record {
-  tables = λ x. (
-    (λ m. (inside x m, ((joined.tables x).0 m).1)),
-    (λ h. (joined.tables x).1 (fewer x h.0, h.1)),
-  );
-  set = λ u. (
-    (λ m. let k = (joined.set u).0 m in (k.0, inside k.0 ((joined.tables k.0).1 (k.1, k.2)), k.2, k.3)),
-    (λ h. (joined.set u).1 (h.0, fewer h.0 h.1, h.2, h.3)),
-  );
-}
-
--- of fewer nodes, made anew
-pub joined_narrow : (nodes : List NodeView) (Of Few : ℕ → Type 0) (y : ℕ) (joint narrow : Joint) → ((x : ℕ) → Few x → Of x) → ((x : ℕ) → IsIn narrow.tables x ↔ (IsIn joint.tables x × Few x))
-    → ((u : ℕ) → IsIn narrow.set u ↔ ((x : ℕ) × IsIn narrow.tables x × IsOfFamily nodes x u)) → IsJointAmong nodes Of y joint → IsJointAmong nodes Few y narrow
-joined_narrow nodes Of Few y joint narrow fewer tables set joined = record {
-  tables = own;
-  set = λ u. (
-    (λ m. let k = (set u).0 m in let h = (own k.0).0 k.1 in (k.0, h.0, h.1, k.2)),
-    (λ h. (set u).1 (h.0, (own h.0).1 (h.1, h.2), h.3)),
-  );
-}
-  where
-    own : (x : ℕ) → IsIn narrow.tables x ↔ (Few x × IsOfFamily nodes x y)
-    own x = (
-      (λ m. let h = (tables x).0 m in (h.1, ((joined.tables x).0 h.0).1)),
-      (λ h. (tables x).1 ((joined.tables x).1 (fewer x h.0, h.1), h.0)),
-    )
-
--- what is narrowed is so of other lists that have the same at y, before and after
-pub narrowed_moved : (states : List ℕ) (families : List Family) (ruled : NodeSet) (y : ℕ) (was before after is : List Joint) (was' before' after' is' : List ℕ)
-    → joint_at before y ≡ joint_at was y → slice_index before' y ≡ slice_index was' y → joint_at is y ≡ joint_at after y → slice_index is' y ≡ slice_index after' y
-    → IsNarrowed states families before before' ruled y after after' → IsNarrowed states families was was' ruled y is is'
-narrowed_moved states families ruled y was before after is was' before' after' is' old old' new new' h = record {
-  joined = λ nodes known of_ruled joined. subst (λ (j : Joint). IsJointAmong nodes (IsIn ruled) y j) (sym new)
-      (h.joined nodes known of_ruled (subst (λ (j : Joint). IsJointAmong nodes (IsRuled nodes) y j) (sym old) joined));
-  counted = λ counted. counted_moved states after is after' is' y new new' (h.counted (counted_moved states was before was' before' y old old' counted));
-}
 
 -- of no nodes: it has no table
 pub joined_none : (nodes : List NodeView) (y : ℕ) (joint : Joint) → ((u : ℕ) → IsIn joint.set u → ⊥) → ((x : ℕ) → IsIn joint.tables x → ⊥) → IsJointAmong nodes (IsRuledBelow nodes 0) y joint

@@ -8,6 +8,7 @@ pub mod Running
 pub mod Starting
 pub mod Putting
 pub mod Walking
+pub mod Placed
 pub mod Planning
 pub mod Orders
 pub mod Measuring

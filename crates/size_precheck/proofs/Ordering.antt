@@ -8,7 +8,7 @@ use Rattle.maid_model.specs.Views.{NodeView}
 use Rattle.node_sets.specs.declared.sets.NodeSet.{NodeSet}
 use Rattle.node_sets.specs.Sets.{IsIn}
 use Rattle.plan_sums.specs.Plans.{PlanView}
-use Rattle.size_precheck.specs.Decisions.{HaveNodesBelow, IsStepOf, ListsOnce}
+use Rattle.size_precheck.specs.Decisions.{HaveNodesBelow, ListsOnce}
 use Rattle.size_precheck.specs.Sizes.{IsMember, IsPlanned, SizedPlan}
 use Rattle.size_precheck.proofs.Starting.{kept_known, step_known}
 
@@ -100,11 +100,15 @@ nodes_below nodes (a ∷ rest) (p ∷ ps) z v (plan, (zero, l, e), m) = elim (su
 ]
 nodes_below nodes (a ∷ rest) (p ∷ ps) z v (plan, (suc k, l, e), m) = nodes_below nodes rest ps z.1 v (plan, (k, omega (arith, l), e), m)
 
--- the steps of one plan more
-pub steps_more : (plans : List SizedPlan) (i : ℕ) (plan : SizedPlan) (steps more : NodeSet) → i < length plans → plan ≡ get_or plans i plan
-    → ((v : ℕ) → IsIn steps v ↔ IsStepOf (take i plans) v) → ((v : ℕ) → IsIn more v ↔ (IsIn steps v ⊎ Contains plan.steps v)) → (v : ℕ) → IsIn more v ↔ IsStepOf (take (i + 1) plans) v
-steps_more plans i plan steps more inside at so adds v = (
-  (λ m. elim ((adds v).0 m) as (λ _. IsStepOf (take (i + 1) plans) v) [
+-- v is a node that is so of one of the plans
+abbrev IsOfOne : (SizedPlan → ℕ → Type 0) → List SizedPlan → ℕ → Type 0
+IsOfOne IsOf plans v = (plan : SizedPlan) × Contains plans plan × IsOf plan v
+
+-- the nodes that are so of one plan more
+pub gathers_more : (IsOf : SizedPlan → ℕ → Type 0) (plans : List SizedPlan) (i : ℕ) (plan : SizedPlan) (nodes more : NodeSet) → i < length plans → plan ≡ get_or plans i plan
+    → ((v : ℕ) → IsIn nodes v ↔ IsOfOne IsOf (take i plans) v) → ((v : ℕ) → IsIn more v ↔ (IsIn nodes v ⊎ IsOf plan v)) → (v : ℕ) → IsIn more v ↔ IsOfOne IsOf (take (i + 1) plans) v
+gathers_more IsOf plans i plan nodes more inside at so adds v = (
+  (λ m. elim ((adds v).0 m) as (λ _. IsOfOne IsOf (take (i + 1) plans) v) [
     | inl o ↦ let s = (so v).0 o in (s.0, subst (λ l. Contains l s.0) (sym split) (Contains-append_left (take i plans) (plan ∷ []) s.0 s.1), s.2)
     | inr n ↦ (plan, subst (λ l. Contains l plan) (sym split) (Contains-append_right (take i plans) (plan ∷ []) plan (itself plan)), n)
   ]),
@@ -114,6 +118,6 @@ steps_more plans i plan steps more inside at so adds v = (
     split : take (i + 1) plans ≡ take i plans ++ plan ∷ []
     split = take_more plans i plan inside ∙ ap (λ p. take i plans ++ p ∷ []) (sym at)
 
-    go : (s : IsStepOf (take (i + 1) plans) v) → Contains (take i plans) s.0 ⊎ Contains (plan ∷ []) s.0 → IsIn steps v ⊎ Contains plan.steps v
+    go : (s : IsOfOne IsOf (take (i + 1) plans) v) → Contains (take i plans) s.0 ⊎ Contains (plan ∷ []) s.0 → IsIn nodes v ⊎ IsOf plan v
     go s (inl f) = inl ((so v).1 (s.0, f, s.2))
-    go s (inr l) = inr (subst (λ (p : SizedPlan). Contains p.steps v) (one_of plan s.0 l) s.2)
+    go s (inr l) = inr (subst (λ (p : SizedPlan). IsOf p v) (one_of plan s.0 l) s.2)

@@ -15,14 +15,14 @@ use Rattle.node_sets.specs.Sets.{holds, IsIn, IsFirstFrom}
 use Rattle.node_sets.specs.declared.sets.NodeSet.{NodeSet}
 use Rattle.plan_sums.specs.Plans.{has}
 use Rattle.ring_sums.proofs.Same.{map_append}
-use Rattle.size_precheck.specs.declared.joints.Joint.{Joint}
+use Rattle.size_precheck.specs.declared.joints.Known.{Known}
 use Rattle.size_precheck.specs.declared.joints.Table.{Table}
 use Rattle.size_precheck.specs.declared.simulation.Start.{Start}
 use Rattle.maid_model.specs.Bounds.{stopped}
 use Rattle.maid_model.proofs.Found.{eqb_yes}
 use Rattle.size_precheck.specs.Counts.{counted_cells}
 use Rattle.size_precheck.specs.Families.{IsJointAmong, IsOfFamily}
-use Rattle.size_precheck.specs.Joints.{joint_at, counted_over, AreStateCounts, IsCountedAt, SomeOf, HoldsOfEach, TagsDiffer, Tells, AreLive, tests_of, Rising, IsListOf, IsGreedyStart, family_test, parents_test}
+use Rattle.size_precheck.specs.Joints.{counted_over, joint_in, AllStayCounted, AreStateCounts, IsCountedIn, SomeOf, HoldsOfEach, TagsDiffer, Tells, TellsOneMore, AreLive, tests_of, Rising, IsListOf, IsGreedyStart, family_test, parents_test}
 use Rattle.size_precheck.proofs.Counting.{stop_part}
 use Rattle.size_precheck.proofs.Lists.{IsListTo, list_more, list_done}
 use Rattle.size_precheck.proofs.Live.{differ_push}
@@ -181,7 +181,7 @@ some_one P (t ∷ ts) (inl p) = (t, p)
 some_one P (t ∷ ts) (inr s) = some_one P ts s
 
 module _ (nodes : List NodeView) (states : List ℕ) (ruled waiting : NodeSet) (from : ℕ) (few : from ≤ 256) (none : (v : ℕ) → from ≤ v → IsIn ruled v → ⊥) (are : AreStateCounts nodes states)
-    (joints : List Joint) (counts : List ℕ) (joined : (y : ℕ) → IsIn waiting y → IsJointAmong nodes (IsIn ruled) y (joint_at joints y)) (counted_at : (y : ℕ) → IsIn waiting y → IsCountedAt states joints counts y)
+    (known : Known) (joined : (y : ℕ) → IsIn waiting y → IsJointAmong nodes (IsIn ruled) y (joint_in known y)) (counted_at : (y : ℕ) → IsIn waiting y → IsCountedIn states known y)
     (live cells : ℕ) (h : Put nodes ruled from live cells) (other : List ℕ) (listed : IsListOf ruled other) where
   one_list : h.list ≡ other
   one_list =
@@ -208,41 +208,41 @@ module _ (nodes : List NodeView) (states : List ℕ) (ruled waiting : NodeSet) (
       small : (x : ℕ) → x < from → x < 256
       small x l = omega arith
 
-  abbrev Known : Table → Type 0
-  Known t = IsIn ruled t.tag × ((u : ℕ) → IsIn t.scope u ↔ IsOfFamily nodes t.tag u)
+  abbrev Ruled : Table → Type 0
+  Ruled t = IsIn ruled t.tag × ((u : ℕ) → IsIn t.scope u ↔ IsOfFamily nodes t.tag u)
 
-  all_known : HoldsOfEach Known h.tables
+  all_known : HoldsOfEach Ruled h.tables
   all_known = both h.tables all_small h.of_family
     where
-      both : (ts : List Table) → HoldsOfEach (λ t. IsIn ruled t.tag × (t.tag < from)) ts → HoldsOfEach (λ t. (u : ℕ) → IsIn t.scope u ↔ IsOfFamily nodes t.tag u) ts → HoldsOfEach Known ts
+      both : (ts : List Table) → HoldsOfEach (λ t. IsIn ruled t.tag × (t.tag < from)) ts → HoldsOfEach (λ t. (u : ℕ) → IsIn t.scope u ↔ IsOfFamily nodes t.tag u) ts → HoldsOfEach Ruled ts
       both [] a b = tt
       both (t ∷ ts) a b = ((a.0.0, b.0), both ts a.1 b.1)
 
-  with_tag : (x : ℕ) → IsIn ruled x → SomeOf (λ t. Known t × (t.tag ≡ x)) h.tables
-  with_tag x m = each_some Known (λ t. t.tag ≡ x) h.tables all_known
+  with_tag : (x : ℕ) → IsIn ruled x → SomeOf (λ t. Ruled t × (t.tag ≡ x)) h.tables
+  with_tag x m = each_some Ruled (λ t. t.tag ≡ x) h.tables all_known
       (some_mapped (λ y. y ≡ x) (λ (t : Table). t.tag) h.tables (subst (λ (xs : List ℕ). SomeOf (λ y. y ≡ x) xs) (sym h.tags) (h.listed.all x (early x m) m)))
     where
       early : (x : ℕ) → IsIn ruled x → x < from
       early x m = elim (cases_lt x from) as (λ _. x < from) [ inl l ↦ l | inr g ↦ absurd (none x g m) ]
 
-  told : (y : ℕ) → IsIn waiting y → Tells h.tables y (joint_at joints y)
+  told : (y : ℕ) → IsIn waiting y → Tells h.tables y (joint_in known y)
   told y waits = record {
     set = λ u. (
       (λ m.
           let k = ((joined y waits).set u).0 m in
-          some_map (λ t. Known t × (t.tag ≡ k.0)) (λ t. IsIn t.scope y × IsIn t.scope u)
+          some_map (λ t. Ruled t × (t.tag ≡ k.0)) (λ t. IsIn t.scope y × IsIn t.scope u)
           (λ t h. ((h.0.1 y).1 (subst (λ z. IsOfFamily nodes z y) (sym h.1) k.2), (h.0.1 u).1 (subst (λ z. IsOfFamily nodes z u) (sym h.1) k.3))) h.tables (with_tag k.0 k.1)),
       (λ s.
-          let k = some_one (λ t. Known t × (IsIn t.scope y × IsIn t.scope u)) h.tables (each_some Known (λ t. IsIn t.scope y × IsIn t.scope u) h.tables all_known s) in
+          let k = some_one (λ t. Ruled t × (IsIn t.scope y × IsIn t.scope u)) h.tables (each_some Ruled (λ t. IsIn t.scope y × IsIn t.scope u) h.tables all_known s) in
           ((joined y waits).set u).1 (k.0.tag, k.1.0.0, (k.1.0.1 y).0 k.1.1.0, (k.1.0.1 u).0 k.1.1.1)),
     );
     tables = λ x. (
       (λ m.
           let k = ((joined y waits).tables x).0 m in
-          some_map (λ t. Known t × (t.tag ≡ x)) (λ t. (t.tag ≡ x) × IsIn t.scope y)
+          some_map (λ t. Ruled t × (t.tag ≡ x)) (λ t. (t.tag ≡ x) × IsIn t.scope y)
           (λ t h. (h.1, (h.0.1 y).1 (subst (λ z. IsOfFamily nodes z y) (sym h.1) k.1))) h.tables (with_tag x k.0)),
       (λ s.
-          let k = some_one (λ t. Known t × ((t.tag ≡ x) × IsIn t.scope y)) h.tables (each_some Known (λ t. (t.tag ≡ x) × IsIn t.scope y) h.tables all_known s) in
+          let k = some_one (λ t. Ruled t × ((t.tag ≡ x) × IsIn t.scope y)) h.tables (each_some Ruled (λ t. (t.tag ≡ x) × IsIn t.scope y) h.tables all_known s) in
           ((joined y waits).tables x).1 (subst (IsIn ruled) k.1.1.0 k.1.0.0, subst (λ z. IsOfFamily nodes z y) k.1.1.0 ((k.1.0.1 y).0 k.1.1.1))),
     );
   }
@@ -251,16 +251,16 @@ module _ (nodes : List NodeView) (states : List ℕ) (ruled waiting : NodeSet) (
   tests_are = h.scopes ∙ ap (λ (xs : List ℕ). map (family_test nodes) xs) one_list
 
   -- with no utility
-  pub started_without : (start : Start) → start.known.joints.items ≡ joints → start.known.counts.items ≡ counts → start.live ≡ live → start.cells ≡ cells → IsGreedyStart nodes states (IsIn waiting) (map (family_test nodes) other ++ []) start
-  started_without start joints_are counts_are live_are cells_are =
+  pub started_without : (start : Start) → start.known ≡ known → start.live ≡ live → start.cells ≡ cells → IsGreedyStart nodes states (IsIn waiting) (map (family_test nodes) other ++ []) start
+  started_without start known_is live_are cells_are =
       let whole : map (family_test nodes) other ++ [] ≡ map (family_test nodes) other = append_none (map (family_test nodes) other) in
       let scopes_are : tests_of h.tables ≡ map (family_test nodes) other ++ [] = tests_are ∙ sym whole in
       record {
         are_states = are;
         tables = h.tables;
         are_live = are_live;
-        tells = λ y m. subst (λ (js : List Joint). Tells h.tables y (joint_at js y)) (sym joints_are) (told y m);
-        counted = λ y m. subst (λ (js : List Joint). IsCountedAt states js start.known.counts.items y) (sym joints_are) (subst (λ (cs : List ℕ). IsCountedAt states joints cs y) (sym counts_are) (counted_at y m));
+        tells = λ y m. subst (λ (k : Known). Tells h.tables y (joint_in k y)) (sym known_is) (told y m);
+        counted = λ y m. subst (λ (k : Known). IsCountedIn states k y) (sym known_is) (counted_at y m);
         scopes_are = scopes_are;
         live = live_are ∙ h.live_is ∙ sym (length_tests h.tables) ∙ ap (λ (ss : List (ℕ → Bool)). length ss) scopes_are;
         cells = cells_are ∙ h.cells_are ∙ ap (λ (ss : List (ℕ → Bool)). stopped (sum_by (λ s. counted_cells nodes s) ss)) scopes_are;
@@ -275,14 +275,13 @@ module _ (nodes : List NodeView) (states : List ℕ) (ruled waiting : NodeSet) (
       length_tests (t ∷ ts) = ap suc (length_tests ts)
 
   -- with one
-  pub started_with : (u : ℕ) (table : Table) (joints' : List Joint) (counts' : List ℕ) (counted : ℕ) (start : Start) → u < 256 → (IsIn ruled u → ⊥) → (IsIn waiting u → ⊥)
+  pub started_with : (u : ℕ) (table : Table) (known' : Known) (counted : ℕ) (start : Start) → u < 256 → (IsIn ruled u → ⊥) → (IsIn waiting u → ⊥)
       → table.tag ≡ u → ((x : ℕ) → IsIn table.scope x ↔ Contains (parents_of nodes u) x)
-      → ((tables : List Table) (y : ℕ) → IsIn waiting y → Tells tables y (joint_at joints y) → Tells (tables ++ table ∷ []) y (joint_at joints' y))
-      → ((y : ℕ) → IsIn waiting y → IsCountedAt states joints counts y → IsCountedAt states joints' counts' y)
+      → TellsOneMore waiting table known known' → AllStayCounted states waiting known known'
       → counted ≡ counted_over states (holds table.scope)
-      → start.known.joints.items ≡ joints' → start.known.counts.items ≡ counts' → start.live ≡ live + 1 → start.cells ≡ stopped (cells + counted)
+      → start.known ≡ known' → start.live ≡ live + 1 → start.cells ≡ stopped (cells + counted)
       → IsGreedyStart nodes states (IsIn waiting) (map (family_test nodes) other ++ parents_test nodes u ∷ []) start
-  started_with u table joints' counts' counted start small unruled kept tag scope puts recounted counted_is joints_are counts_are live_are cells_are =
+  started_with u table known' counted start small unruled kept tag scope puts recounted counted_is known_is live_are cells_are =
       let all = h.tables ++ table ∷ [] in
       let scopes_are : tests_of all ≡ map (family_test nodes) other ++ parents_test nodes u ∷ [] =
       map_append (λ (t : Table). holds t.scope) h.tables (table ∷ [])
@@ -297,8 +296,8 @@ module _ (nodes : List NodeView) (states : List ℕ) (ruled waiting : NodeSet) (
               (λ s. some_never (λ t. (IsIn ruled t.tag × (t.tag < from)) × (t.tag ≡ table.tag)) h.tables (λ t k. unruled (subst (IsIn ruled) (k.1 ∙ tag) k.0.0)) (each_some (λ t. IsIn ruled t.tag × (t.tag < from)) (λ t. t.tag ≡ table.tag) h.tables all_small s));
           own = each_push (λ t. IsIn waiting t.tag → IsIn t.scope t.tag) h.tables table are_live.own (λ w. absurd (kept (subst (IsIn waiting) tag w)));
         };
-        tells = λ y m. subst (λ (js : List Joint). Tells all y (joint_at js y)) (sym joints_are) (puts h.tables y m (told y m));
-        counted = λ y m. subst (λ (js : List Joint). IsCountedAt states js start.known.counts.items y) (sym joints_are) (subst (λ (cs : List ℕ). IsCountedAt states joints' cs y) (sym counts_are) (recounted y m (counted_at y m)));
+        tells = λ y m. subst (λ (k : Known). Tells all y (joint_in k y)) (sym known_is) (puts h.tables y m (told y m));
+        counted = λ y m. subst (λ (k : Known). IsCountedIn states k y) (sym known_is) (recounted y m (counted_at y m));
         scopes_are = scopes_are;
         live = live_are ∙ ap (λ n. n + 1) h.live_is ∙ sym (length_push h.tables table) ∙ sym (length_tests all) ∙ ap (λ (ss : List (ℕ → Bool)). length ss) scopes_are;
         cells = sum_more nodes h.tables table cells start.cells counted h.cells_are (counted_is ∙ cells_counted nodes states table.scope (holds table.scope) are (λ u. refl)) cells_are

@@ -9,7 +9,7 @@ use Rattle.maid_model.specs.Views.{NodeView}
 use Rattle.node_sets.specs.Sets.{holds, IsIn}
 use Rattle.node_sets.specs.declared.sets.NodeSet.{NodeSet}
 use Rattle.ring_sums.specs.Tables.{joined_without, scopes_one, scopes_after}
-use Rattle.size_precheck.specs.declared.joints.Joint.{Joint}
+use Rattle.size_precheck.specs.declared.joints.Known.{Known}
 use Rattle.size_precheck.specs.declared.joints.Table.{Table}
 use Rattle.size_precheck.specs.declared.simulation.Made.{Made}
 use Rattle.size_precheck.specs.declared.simulation.Start.{Start}
@@ -17,7 +17,7 @@ use Rattle.maid_model.specs.Bounds.{stopped}
 use Rattle.size_precheck.specs.Classes.{IsFewest}
 use Rattle.size_precheck.specs.Counts.{counted_cells}
 use Rattle.size_precheck.specs.Greedy.{holding, joined_set, joined_cells, IsNext}
-use Rattle.size_precheck.specs.Joints.{joint_at, AreStateCounts, HoldsOfEach, Stands, IsGreedyStart, IsGreedyStep, tests_of}
+use Rattle.size_precheck.specs.Joints.{cells_in, joint_in, AreStateCounts, HoldsOfEach, Stands, IsGreedyStart, IsGreedyStep, tests_of}
 use Rattle.size_precheck.specs.Sizes.{made_cells, steps_work}
 use Rattle.size_precheck.proofs.Counting.{stop_part, stop_later}
 use Rattle.size_precheck.proofs.Orders.{next_more}
@@ -72,8 +72,8 @@ remains_push Item Rest Later steps v rest later x = (
   (λ h. (later x).1 ((rest x).1 (h.0, λ c. h.1 (Contains-append_left steps (v ∷ []) x c)), λ e. h.1 (subst (λ y. Contains (steps ++ v ∷ []) y) (sym e) (Contains-push steps v)))),
 )
 
-pub stands_less : (states : List ℕ) (P Q : ℕ → Type 0) (tables : List Table) (joints : List Joint) (cells : List ℕ) → ((y : ℕ) → Q y → P y) → Stands states P tables joints cells → Stands states Q tables joints cells
-stands_less states P Q tables joints cells less h = record {
+pub stands_less : (states : List ℕ) (P Q : ℕ → Type 0) (tables : List Table) (known : Known) → ((y : ℕ) → Q y → P y) → Stands states P tables known → Stands states Q tables known
+stands_less states P Q tables known less h = record {
   live = record { small = h.live.small; differ = h.live.differ; own = own_less tables h.live.own };
   tells = λ y q. h.tells y (less y q);
   counted = λ y q. h.counted y (less y q);
@@ -84,9 +84,9 @@ stands_less states P Q tables joints cells less h = record {
     own_less (t ∷ ts) e = ((λ q. e.0 (less t.tag q)), own_less ts e.1)
 
 -- ---- after these steps
-pub record At (nodes : List NodeView) (states : List ℕ) (Item Rest : ℕ → Type 0) (scopes : List (ℕ → Bool)) (steps : List ℕ) (joints : List Joint) (counts : List ℕ) (live cells work : ℕ) : Type 0 where
+pub record At (nodes : List NodeView) (states : List ℕ) (Item Rest : ℕ → Type 0) (scopes : List (ℕ → Bool)) (steps : List ℕ) (known : Known) (live cells work : ℕ) : Type 0 where
   pub tables : List Table
-  pub stands : Stands states Rest tables joints counts
+  pub stands : Stands states Rest tables known
   pub scopes_are : tests_of tables ≡ scopes_after steps scopes
   pub each : (k : ℕ) → k < length steps → IsNext nodes Item scopes (take k steps) (slice_index steps k)
   pub live_is : live ≡ length (scopes_after steps scopes)
@@ -95,7 +95,7 @@ pub record At (nodes : List NodeView) (states : List ℕ) (Item Rest : ℕ → T
 
 -- before the first step
 pub at_none : (nodes : List NodeView) (states : List ℕ) (Item : ℕ → Type 0) (scopes : List (ℕ → Bool)) (start : Start) → IsGreedyStart nodes states Item scopes start
-    → At nodes states Item Item scopes [] start.known.joints.items start.known.counts.items start.live start.cells 0
+    → At nodes states Item Item scopes [] start.known start.live start.cells 0
 at_none nodes states Item scopes start begun = record {
   tables = begun.tables;
   stands = record { live = begun.are_live; tells = begun.tells; counted = begun.counted };
@@ -110,17 +110,17 @@ pub remains_none : (Item : ℕ → Type 0) (x : ℕ) → Item x ↔ Remains Item
 remains_none Item x = ((λ m. (m, search rules)), (λ r. r.0))
 
 module _ (nodes : List NodeView) (states : List ℕ) (Item : ℕ → Type 0) (rest : NodeSet) (scopes : List (ℕ → Bool)) (steps : List ℕ)
-    (joints : List Joint) (counts : List ℕ) (live cells work : ℕ) (are : AreStateCounts nodes states)
-    (now : At nodes states Item (IsIn rest) scopes steps joints counts live cells work) where
+    (known : Known) (live cells work : ℕ) (are : AreStateCounts nodes states)
+    (now : At nodes states Item (IsIn rest) scopes steps known live cells work) where
   -- what is counted at a node that waits
-  counted_at : (w : ℕ) → IsIn rest w → slice_index counts w ≡ joined_cells nodes scopes steps w
+  counted_at : (w : ℕ) → IsIn rest w → cells_in known w ≡ joined_cells nodes scopes steps w
   counted_at w m =
       now.stands.counted w m
-      ∙ cells_counted nodes states (joint_at joints w).set (joined_set w (tests_of now.tables)) are (set_told now.tables w (joint_at joints w) (now.stands.tells w m))
+      ∙ cells_counted nodes states (joint_in known w).set (joined_set w (tests_of now.tables)) are (set_told now.tables w (joint_in known w) (now.stands.tells w m))
       ∙ ap (λ (ss : List (ℕ → Bool)). counted_cells nodes (joined_set w ss)) now.scopes_are
 
   -- the first of those with fewest cells is next
-  pub is_next : (v : ℕ) → ((x : ℕ) → IsIn rest x ↔ Remains Item steps x) → IsFewest counts (holds rest) v → IsNext nodes Item scopes steps v
+  pub is_next : (v : ℕ) → ((x : ℕ) → IsIn rest x ↔ Remains Item steps x) → IsFewest (cells_in known) (holds rest) v → IsNext nodes Item scopes steps v
   is_next v remains best = record {
     remains = (remains v).0 best.waiting;
     fewest = λ w r.
@@ -137,19 +137,19 @@ module _ (nodes : List NodeView) (states : List ℕ) (Item : ℕ → Type 0) (re
         omega arith;
   }
 
-  pub joined_few : (v : ℕ) (Later : ℕ → Type 0) (joints' : List Joint) (counts' : List ℕ) (made : Made) → IsGreedyStep nodes states Later v now.tables joints' counts' made → made.tables ≤ live + 1
-  joined_few v Later joints' counts' made step =
+  pub joined_few : (v : ℕ) (Later : ℕ → Type 0) (known' : Known) (made : Made) → IsGreedyStep nodes states Later v now.tables known' made → made.tables ≤ live + 1
+  joined_few v Later known' made step =
       let a = length_one v (scopes_after steps scopes) in
       let b : made.tables ≡ length (holding v (scopes_after steps scopes)) = step.joined ∙ ap (λ (ss : List (ℕ → Bool)). length (holding v ss)) now.scopes_are in
       let c = now.live_is in
       omega arith
 
   -- one step more
-  pub at_more : (v : ℕ) (Later : ℕ → Type 0) (joints' : List Joint) (counts' : List ℕ) (made : Made) (live' cells' work' : ℕ)
-      → IsNext nodes Item scopes steps v → IsGreedyStep nodes states Later v now.tables joints' counts' made
+  pub at_more : (v : ℕ) (Later : ℕ → Type 0) (known' : Known) (made : Made) (live' cells' work' : ℕ)
+      → IsNext nodes Item scopes steps v → IsGreedyStep nodes states Later v now.tables known' made
       → live' ≡ (live + 1) - made.tables → cells' ≡ stopped (cells + made.cells) → work' ≡ stopped (work + made.work)
-      → At nodes states Item Later scopes (steps ++ v ∷ []) joints' counts' live' cells' work'
-  at_more v Later joints' counts' made live' cells' work' next step live_new cells_new work_new = record {
+      → At nodes states Item Later scopes (steps ++ v ∷ []) known' live' cells' work'
+  at_more v Later known' made live' cells' work' next step live_new cells_new work_new = record {
     tables = step.after;
     stands = step.stands;
     scopes_are = step.scopes ∙ ap (λ (ss : List (ℕ → Bool)). scopes_one v ss) now.scopes_are ∙ sym (scopes_push steps v scopes);

@@ -1,6 +1,6 @@
 -- The nodes of a plan, its first tables, and what is known before the first step.
 use Rattle.std.proofs.Common.{◌≡◌, ◌≢◌, ◌∙◌, ◌⊎◌, ◌↔◌, ℕ, zero, suc, ◌+◌, ◌<◌, ◌≤◌, Bool, true, false, not, filter, List, [], ◌∷◌, ◌++◌, length, get_or, refl, sym, ap, subst, inl, inr, arith, Option, Some, None}
-use Rattle.std.specs.Prelude.{Contains, slice_index, slice_index_or, replicate, set}
+use Rattle.std.specs.Prelude.{Contains, slice_index_or, replicate, set}
 use Rattle.std.specs.List.{range_with_len}
 use Rattle.std.proofs.lemmas.Bool.{cases_lt, cases_eq}
 use Rattle.std.proofs.lemmas.List.{get_or_past, get_or-set_same, get_or-set_other}
@@ -16,9 +16,10 @@ use Rattle.node_sets.specs.declared.sets.NodeSet.{NodeSet}
 use Rattle.plan_sums.specs.Laws.{TestsPlanNodes}
 use Rattle.plan_sums.specs.Plans.{PlanView, has, in_plan, plan_nodes, eliminated_nodes}
 use Rattle.plan_sums.specs.Sizes.{IsPlan}
-use Rattle.size_precheck.specs.declared.joints.Joint.{Joint}
+use Rattle.size_precheck.specs.declared.joints.Counted.{Counted}
+use Rattle.size_precheck.specs.declared.joints.Known.{Known}
 use Rattle.size_precheck.specs.declared.joints.Table.{Table}
-use Rattle.size_precheck.specs.Joints.{joint_at, counted_over, AreStateCounts, IsCountedAt, IsPut, Tells}
+use Rattle.size_precheck.specs.Joints.{counted_in, joint_in, AllStayCounted, ArePutIn, AreStateCounts, IsCounted, IsCountedIn, Tells, TellsOneMore}
 use Rattle.size_precheck.proofs.Live.{first_put, first_same}
 
 -- ---- counts of states
@@ -59,24 +60,22 @@ pub rest_less : (states : List ℕ) (v count : ℕ) → ((u : ℕ) → v ≤ u �
 rest_less states v count rest u l = let n : u ≢ v = omega arith in get_or-set_other states v u count 1 n ∙ rest u (omega arith)
 
 -- ---- a first table
-pub first_right : (table : Table) (waiting at none : NodeSet) (joints joints' : List Joint) → ((x : ℕ) → IsIn none x → ⊥) → ((x : ℕ) → IsIn at x ↔ (IsIn table.scope x × IsIn waiting x))
-    → ((y : ℕ) → IsIn at y → IsPut table (IsIn none) (IsIn none) (joint_at joints y) (joint_at joints' y)) → ((y : ℕ) → (IsIn at y → ⊥) → joint_at joints' y ≡ joint_at joints y)
-    → (live : List Table) (y : ℕ) → IsIn waiting y → Tells live y (joint_at joints y) → Tells (live ++ table ∷ []) y (joint_at joints' y)
-first_right table waiting at none joints joints' empty at_is put same live y m tells = elim (true_or_false (holds at y)) as (λ _. Tells (live ++ table ∷ []) y (joint_at joints' y)) [
-  | inl e ↦ first_put live table y none none (joint_at joints y) (joint_at joints' y) empty empty ((at_is y).0 e).0 (put y e) tells
-  | inr e ↦ subst (λ (j : Joint). Tells (live ++ table ∷ []) y j) (sym (same y (lacks e))) (first_same live table y (joint_at joints y) (λ s. lacks e ((at_is y).1 (s, m))) tells)
+pub first_right : (table : Table) (waiting at none : NodeSet) (known known' : Known) → ((x : ℕ) → IsIn none x → ⊥) → ((x : ℕ) → IsIn at x ↔ (IsIn table.scope x × IsIn waiting x))
+    → ArePutIn at table none none known known' → ((y : ℕ) → IsIn waiting y → (IsIn at y → ⊥) → counted_in known' y ≡ counted_in known y) → TellsOneMore waiting table known known'
+first_right table waiting at none known known' empty at_is put same live y m tells = elim (true_or_false (holds at y)) as (λ _. Tells (live ++ table ∷ []) y (joint_in known' y)) [
+  | inl e ↦ first_put live table y none none (joint_in known y) (joint_in known' y) empty empty ((at_is y).0 e).0 (put y e) tells
+  | inr e ↦ subst (λ (h : Counted). Tells (live ++ table ∷ []) y h.joint) (sym (same y m (lacks e))) (first_same live table y (joint_in known y) (λ s. lacks e ((at_is y).1 (s, m))) tells)
 ]
   where
     lacks : holds at y ≡ false → IsIn at y → ⊥
     lacks e m = let f : true ≡ false = sym m ∙ e in absurd (cc)
 
 -- a count is right again where the table was put, and still right elsewhere
-pub counted_right : (states : List ℕ) (at : NodeSet) (joints joints' : List Joint) (counts counts' : List ℕ) → ((y : ℕ) → IsIn at y → IsCountedAt states joints counts y → IsCountedAt states joints' counts' y)
-    → ((y : ℕ) → (IsIn at y → ⊥) → joint_at joints' y ≡ joint_at joints y) → ((y : ℕ) → (IsIn at y → ⊥) → slice_index counts' y ≡ slice_index counts y)
-    → (y : ℕ) → IsCountedAt states joints counts y → IsCountedAt states joints' counts' y
-counted_right states at joints joints' counts counts' new same kept y counted = elim (true_or_false (holds at y)) as (λ _. slice_index counts' y ≡ counted_over states (holds (joint_at joints' y).set)) [
+pub counted_right : (states : List ℕ) (waiting at : NodeSet) (known known' : Known) → AllStayCounted states at known known'
+    → ((y : ℕ) → IsIn waiting y → (IsIn at y → ⊥) → counted_in known' y ≡ counted_in known y) → AllStayCounted states waiting known known'
+counted_right states waiting at known known' new same y m counted = elim (true_or_false (holds at y)) as (λ _. IsCountedIn states known' y) [
   | inl e ↦ new y e counted
-  | inr e ↦ kept y (lacks e) ∙ counted ∙ ap (λ (j : Joint). counted_over states (holds j.set)) (sym (same y (lacks e)))
+  | inr e ↦ subst (λ (h : Counted). IsCounted states h.joint h.cells) (sym (same y m (lacks e))) counted
 ]
   where
     lacks : holds at y ≡ false → IsIn at y → ⊥

@@ -1,18 +1,19 @@
 -- What all plans of a diagram share. Public calls cite of this file only that a planner knows the nodes.
-use Rattle.std.specs.Prelude.{◌≡◌, ◌≢◌, ◌⊎◌, ◌↔◌, ℕ, ◌<◌, ◌+◌, Bool, List, [], ◌++◌, map, length, slice_index_or, Contains, Option, option_to_list}
+use Rattle.std.specs.Prelude.{◌≡◌, ◌≢◌, ◌⊎◌, ◌↔◌, ℕ, ◌<◌, ◌+◌, Bool, List, [], ◌++◌, map, length, slice_index, slice_index_or, Contains, Option, option_to_list}
 use Rattle.maid_model.specs.declared.diagrams.Kind.TheVariants.{Utility}
 use Rattle.maid_model.specs.Nodes.{node_at, parents_of}
 use Rattle.maid_model.specs.Views.{NodeView, DiagramView}
 use Rattle.node_sets.specs.declared.sets.TheConstants.{MOST_NODES}
 use Rattle.node_sets.specs.Sets.{holds, IsIn}
 use Rattle.node_sets.specs.declared.sets.NodeSet.{NodeSet}
+use Rattle.size_precheck.specs.declared.joints.Counted.{Counted}
 use Rattle.size_precheck.specs.declared.joints.Joint.{Joint}
 use Rattle.size_precheck.specs.declared.joints.Known.{Known}
 use Rattle.size_precheck.specs.declared.planners.Family.{Family}
 use Rattle.size_precheck.specs.declared.planners.Planner.{Planner}
 use Rattle.size_precheck.specs.declared.simulation.Start.{Start}
 use Rattle.size_precheck.specs.Above.{IsAbove}
-use Rattle.size_precheck.specs.Joints.{counted_over, family_test, joint_at, parents_test, AreStateCounts, IsCountedAt, IsListOf, IsGreedyStart}
+use Rattle.size_precheck.specs.Joints.{counted_in, counted_over, family_test, joint_at, parents_test, AreStateCounts, IsCounted, IsCountedAt, IsListOf, IsGreedyStart}
 
 -- what is known of a number that no node has
 abbrev pub no_family : Family
@@ -74,25 +75,14 @@ IsRuled nodes x = IsRuledBelow nodes (length nodes) x
 abbrev pub AreJointsOfAll : List NodeView → List Joint → Type 0
 AreJointsOfAll nodes joints = (y : ℕ) → y < length nodes → IsJoinedBelow nodes (length nodes) joints y
 
--- of y's tables those of these nodes are left, and the cells of its joined set are counted
+-- of a node's tables those of these nodes are left, and the cells of its joined set are counted
 pub record IsNarrowed
-    (states : List ℕ) (families : List Family) (joints : List Joint) (counts : List ℕ)
-    (ruled : NodeSet) (y : ℕ) (joints' : List Joint) (counts' : List ℕ) : Type 0 where
-  pub joined : (nodes : List NodeView) → AreFamilies nodes states families
-      → ((x : ℕ) → IsIn ruled x → IsRuled nodes x)
-      → IsJoinedBelow nodes (length nodes) joints y
-      → IsJointAmong nodes (IsIn ruled) y (joint_at joints' y)
-  pub counted : IsCountedAt states joints counts y → IsCountedAt states joints' counts' y
-
--- so it is in what is known of each node
-abbrev pub IsNarrowedIn : List ℕ → List Family → NodeSet → ℕ → Known → Known → Type 0
-IsNarrowedIn states families ruled y before after = IsNarrowed states families
-    before.joints.items before.counts.items ruled y after.joints.items after.counts.items
-
--- and so at each node that waits
-abbrev pub AreNarrowed : List ℕ → List Family → NodeSet → NodeSet → Known → Known → Type 0
-AreNarrowed states families ruled waiting before after =
-    (y : ℕ) → IsIn waiting y → IsNarrowedIn states families ruled y before after
+    (states : List ℕ) (families : List Family) (ruled : NodeSet) (joint : Joint) (cells : ℕ)
+    (left : Counted) : Type 0 where
+  pub joined : (nodes : List NodeView) (y : ℕ) → AreFamilies nodes states families
+      → ((x : ℕ) → IsIn ruled x → IsRuled nodes x) → IsJointAmong nodes (IsRuled nodes) y joint
+      → IsJointAmong nodes (IsIn ruled) y left.joint
+  pub counted : IsCounted states joint cells → IsCounted states left.joint left.cells
 
 -- it knows the nodes
 pub record IsPlanner (nodes : List NodeView) (planner : Planner) : Type 0 where
@@ -106,19 +96,15 @@ pub record IsPlanner (nodes : List NodeView) (planner : Planner) : Type 0 where
   pub counts : (y : ℕ) → y < length nodes
       → IsCountedAt planner.states.items planner.joints.items planner.counts.items y
 
--- the joints and the counts of the planner, in which the nodes that wait have the tables of these nodes alone
+-- what the planner has of y, with the tables of these nodes alone
+abbrev pub IsNarrowedAt : Planner → NodeSet → ℕ → Counted → Type 0
+IsNarrowedAt planner ruled y left = IsNarrowed planner.states.items planner.families.items ruled
+    (joint_at planner.joints.items y) (slice_index planner.counts.items y) left
+
+-- so it is known of each node that waits
 abbrev pub IsNarrowedFrom : Planner → NodeSet → NodeSet → Known → Type 0
 IsNarrowedFrom planner ruled waiting known =
-    (y : ℕ) → IsIn waiting y → IsNarrowed planner.states.items planner.families.items
-    planner.joints.items planner.counts.items ruled y known.joints.items known.counts.items
-
--- there are as many joints as the planner has
-abbrev pub HasJointsOf : Planner → Known → Type 0
-HasJointsOf planner known = length known.joints.items ≡ length planner.joints.items
-
--- there are as many counts as the planner has joints
-abbrev pub HasCountsOf : Planner → Known → Type 0
-HasCountsOf planner known = length known.counts.items ≡ length planner.joints.items
+    (y : ℕ) → IsIn waiting y → IsNarrowedAt planner ruled y (counted_in known y)
 
 -- v is above one of these nodes
 abbrev pub IsAboveOne : List Family → NodeSet → ℕ → Type 0

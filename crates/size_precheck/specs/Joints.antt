@@ -3,10 +3,11 @@ use Rattle.std.specs.Prelude.{Contains, ◌==◌, ◌||◌, ◌≤◌, slice_ind
 use Rattle.maid_model.specs.declared.limits.TheConstants.{COUNT_END}
 use Rattle.maid_model.specs.Nodes.{states_of, parents_of}
 use Rattle.plan_sums.specs.Plans.{PlanView, eliminated_nodes, has}
-use Rattle.maid_model.specs.Views.{NodeView, DiagramView}
+use Rattle.maid_model.specs.Views.{NodeView}
 use Rattle.node_sets.specs.declared.sets.NodeSet.{NodeSet}
 use Rattle.node_sets.specs.declared.sets.TheConstants.{MOST_NODES}
 use Rattle.node_sets.specs.Sets.{holds, IsIn}
+use Rattle.size_precheck.specs.declared.joints.Counted.{Counted}
 use Rattle.size_precheck.specs.declared.joints.Joint.{Joint}
 use Rattle.size_precheck.specs.declared.joints.Known.{Known}
 use Rattle.size_precheck.specs.declared.joints.Table.{Table}
@@ -97,15 +98,59 @@ abbrev pub IsPutToAll : NodeSet → Table → NodeSet → NodeSet → List Joint
 IsPutToAll set table gone out before after =
     (y : ℕ) → IsIn set y → IsPutAt table gone out before after y
 
--- in what is known of each node the table is put to y
-abbrev pub IsPutIn : Table → NodeSet → NodeSet → Known → Known → ℕ → Type 0
-IsPutIn table gone out before after y =
-    IsPutAt table gone out before.joints.items after.joints.items y
+-- ---- what is known of the nodes that wait
+-- what is known at no place
+abbrev pub no_counted : Counted
+no_counted = record { joint = no_joint; cells = 0 }
 
--- and to each of these nodes
+-- the place of what is known of y
+abbrev pub place_of : Known → ℕ → ℕ
+place_of known y = slice_index known.places.items y
+
+-- what is known of y
+abbrev pub counted_in : Known → ℕ → Counted
+counted_in known y = slice_index_or known.held.items (place_of known y) no_counted
+
+-- y's joint
+abbrev pub joint_in : Known → ℕ → Joint
+joint_in known y = (counted_in known y).joint
+
+-- the cells of y's joined set
+abbrev pub cells_in : Known → ℕ → ℕ
+cells_in known y = (counted_in known y).cells
+
+-- y has a place
+abbrev pub HasPlace : Known → ℕ → Type 0
+HasPlace known y =
+    (y < length known.places.items) × (place_of known y < length known.held.items)
+
+-- each node that waits has a place of its own
+pub record HasPlaces (Waits : ℕ → Type 0) (known : Known) : Type 0 where
+  pub each : (y : ℕ) → Waits y → HasPlace known y
+  pub own : (x y : ℕ) → Waits x → Waits y → place_of known x ≡ place_of known y → x ≡ y
+
+-- y has the next place, with this in it, and all others have the places that they had
+pub record TakesPlace (y : ℕ) (counted : Counted) (before after : Known) : Type 0 where
+  pub len : length after.places.items ≡ length before.places.items
+  pub place : place_of after y ≡ length before.held.items
+  pub others : (x : ℕ) → (x ≡ y → ⊥) → place_of after x ≡ place_of before x
+  pub held : after.held.items ≡ before.held.items ++ counted ∷ []
+
+-- the places are as they were
+pub record KeepsPlaces (before after : Known) : Type 0 where
+  pub places : after.places.items ≡ before.places.items
+  pub len : length after.held.items ≡ length before.held.items
+
+-- what is known of a node is as it was, unless one that changes has its place
+abbrev pub KeepsOthers : (ℕ → Type 0) → Known → Known → Type 0
+KeepsOthers Changes before after =
+    (x : ℕ) → ((y : ℕ) → Changes y → place_of before x ≡ place_of before y → ⊥)
+    → counted_in after x ≡ counted_in before x
+
+-- the table is put to each of these nodes, after the tables `gone` and the nodes `out` have left
 abbrev pub ArePutIn : NodeSet → Table → NodeSet → NodeSet → Known → Known → Type 0
-ArePutIn set table gone out before after =
-    (y : ℕ) → IsIn set y → IsPutIn table gone out before after y
+ArePutIn set table gone out before after = (y : ℕ) → IsIn set y
+    → IsPut table (IsIn gone) (IsIn out) (joint_in before y) (joint_in after y)
 
 -- P holds of each element
 abbrev pub HoldsOfEach : {X : Type 0} → (X → Type 0) → List X → Type 0
@@ -133,53 +178,33 @@ pub record AreLive (Waiting : ℕ → Type 0) (live : List Table) : Type 0 where
   pub differ : TagsDiffer live
   pub own : HoldsOfEach (λ t. Waiting t.tag → IsIn t.scope t.tag) live
 
--- the cells counted at y are those of its joined set
+-- the cells are those of the joined set
+abbrev pub IsCounted : List ℕ → Joint → ℕ → Type 0
+IsCounted states joint cells = cells ≡ counted_over states (holds joint.set)
+
+-- so they are at y
 abbrev pub IsCountedAt : List ℕ → List Joint → List ℕ → ℕ → Type 0
 IsCountedAt states joints cells y =
-    slice_index cells y ≡ counted_over states (holds (joint_at joints y).set)
+    IsCounted states (joint_at joints y) (slice_index cells y)
 
--- so it is in what is known of each node
+-- so they are in what is known of y
 abbrev pub IsCountedIn : List ℕ → Known → ℕ → Type 0
-IsCountedIn states known y = IsCountedAt states known.joints.items known.counts.items y
+IsCountedIn states known y = IsCounted states (joint_in known y) (cells_in known y)
 
--- where the cells were counted at y, they are counted after
-abbrev pub StaysCounted : List ℕ → Known → Known → ℕ → Type 0
-StaysCounted states before after y = IsCountedIn states before y → IsCountedIn states after y
-
--- and so at each of these nodes
+-- where the cells were counted at one of these nodes, they are counted after
 abbrev pub AllStayCounted : List ℕ → NodeSet → Known → Known → Type 0
 AllStayCounted states set before after =
-    (y : ℕ) → IsIn set y → StaysCounted states before after y
+    (y : ℕ) → IsIn set y → IsCountedIn states before y → IsCountedIn states after y
 
 -- the cells of all joined sets are counted
 abbrev pub AreCounted : List ℕ → List Joint → List ℕ → Type 0
 AreCounted states joints cells = (y : ℕ) → y < length joints → IsCountedAt states joints cells y
 
--- all joints but y's are as they were
-abbrev pub KeepsOtherJoint : ℕ → Known → Known → Type 0
-KeepsOtherJoint y before after =
-    (x : ℕ) → (x ≡ y → ⊥) → joint_at after.joints.items x ≡ joint_at before.joints.items x
-
--- all counts but y's are as they were
-abbrev pub KeepsOtherCount : ℕ → Known → Known → Type 0
-KeepsOtherCount y before after =
-    (x : ℕ) → (x ≡ y → ⊥) → slice_index after.counts.items x ≡ slice_index before.counts.items x
-
--- the joints of all nodes but these are as they were
-abbrev pub KeepsOtherJoints : NodeSet → Known → Known → Type 0
-KeepsOtherJoints set before after =
-    (y : ℕ) → (IsIn set y → ⊥) → joint_at after.joints.items y ≡ joint_at before.joints.items y
-
--- the counts of all nodes but these are as they were
-abbrev pub KeepsOtherCounts : NodeSet → Known → Known → Type 0
-KeepsOtherCounts set before after =
-    (y : ℕ) → (IsIn set y → ⊥) → slice_index after.counts.items y ≡ slice_index before.counts.items y
-
 -- where the joints have the live tables, they have this one more
 abbrev pub TellsOneMore : NodeSet → Table → Known → Known → Type 0
 TellsOneMore waiting table before after =
-    (live : List Table) (y : ℕ) → IsIn waiting y → Tells live y (joint_at before.joints.items y)
-    → Tells (live ++ table ∷ []) y (joint_at after.joints.items y)
+    (live : List Table) (y : ℕ) → IsIn waiting y → Tells live y (joint_in before y)
+    → Tells (live ++ table ∷ []) y (joint_in after y)
 
 -- the scopes of these tables
 abbrev pub tests_of : List Table → List (ℕ → Bool)
@@ -187,18 +212,17 @@ tests_of live = map (λ t. holds t.scope) live
 
 -- what is known of the nodes that wait is right for these live tables
 pub record Stands
-    (states : List ℕ) (Waiting : ℕ → Type 0) (tables : List Table) (joints : List Joint)
-    (cells : List ℕ) : Type 0 where
+    (states : List ℕ) (Waiting : ℕ → Type 0) (tables : List Table) (known : Known) : Type 0 where
   pub live : AreLive Waiting tables
-  pub tells : (y : ℕ) → Waiting y → Tells tables y (joint_at joints y)
-  pub counted : (y : ℕ) → Waiting y → IsCountedAt states joints cells y
+  pub tells : (y : ℕ) → Waiting y → Tells tables y (joint_in known y)
+  pub counted : (y : ℕ) → Waiting y → IsCountedIn states known y
 
 -- what a step at v makes of these live tables, after which v waits no more
 pub record IsGreedyStep
     (nodes : List NodeView) (states : List ℕ) (Waiting : ℕ → Type 0) (v : ℕ) (before : List Table)
-    (joints : List Joint) (counts : List ℕ) (made : Made) : Type 0 where
+    (known : Known) (made : Made) : Type 0 where
   pub after : List Table
-  pub stands : Stands states Waiting after joints counts
+  pub stands : Stands states Waiting after known
   pub scopes : tests_of after ≡ scopes_one v (tests_of before)
   pub cells : made.cells ≡ counted_cells nodes (joined_without v (holding v (tests_of before)))
   pub work : made.work ≡ stopped (counted_cells nodes (joined_set v (tests_of before))
@@ -209,8 +233,8 @@ pub record IsGreedyStep
 abbrev pub MakesStep : List ℕ → NodeSet → ℕ → Known → Known → Made → Type 0
 MakesStep states waiting v before after made =
     (nodes : List NodeView) (live : List Table) → AreStateCounts nodes states
-    → Stands states (λ y. IsIn waiting y ⊎ (y ≡ v)) live before.joints.items before.counts.items
-    → IsGreedyStep nodes states (IsIn waiting) v live after.joints.items after.counts.items made
+    → Stands states (λ y. IsIn waiting y ⊎ (y ≡ v)) live before
+    → IsGreedyStep nodes states (IsIn waiting) v live after made
 
 -- before the first step: what is known of the nodes that wait is right for tables of these scopes, which are counted
 pub record IsGreedyStart
@@ -219,9 +243,8 @@ pub record IsGreedyStart
   pub are_states : AreStateCounts nodes states
   pub tables : List Table
   pub are_live : AreLive Waiting tables
-  pub tells : (y : ℕ) → Waiting y → Tells tables y (joint_at start.known.joints.items y)
-  pub counted :
-      (y : ℕ) → Waiting y → IsCountedAt states start.known.joints.items start.known.counts.items y
+  pub tells : (y : ℕ) → Waiting y → Tells tables y (joint_in start.known y)
+  pub counted : (y : ℕ) → Waiting y → IsCountedIn states start.known y
   pub scopes_are : tests_of tables ≡ scopes
   pub live : start.live ≡ length scopes
   pub cells : start.cells ≡ stopped (sum_by (λ s. counted_cells nodes s) scopes)
@@ -240,19 +263,6 @@ pub record IsGreedyRun
 abbrev pub IsRunOfPlan : List NodeView → PlanView → Run → Type 0
 IsRunOfPlan nodes plan run =
     IsGreedyRun nodes (Contains (eliminated_nodes nodes plan)) (first_scopes nodes plan) run
-
--- before the first step there is a joint for each node
-abbrev pub HasJointForEach : DiagramView → Start → Type 0
-HasJointForEach d start = length start.known.joints.items ≡ length d.nodes
-
--- and a count for each joint
-abbrev pub HasCountForEach : Start → Type 0
-HasCountForEach start = length start.known.counts.items ≡ length start.known.joints.items
-
--- what is known before the first step tells of each of these nodes
-abbrev pub AreKnownTo : Start → NodeSet → Type 0
-AreKnownTo start set =
-    (y : ℕ) → IsIn set y → (y < length start.known.joints.items) × (y < MOST_NODES)
 
 -- some tables of some nodes start so
 abbrev pub IsStartOfSome : List ℕ → NodeSet → Start → Type 0

@@ -4,8 +4,9 @@ ghost use Rattle.std.specs.Prelude.{◌≡◌, ◌↔◌, ℕ, ◌<◌, ◌≤�
 ghost use Rattle.node_sets.specs.declared.sets.TheConstants.{MOST_NODES};
 ghost use Rattle.node_sets.specs.Sets.{holds, IsIn};
 ghost use Rattle.size_precheck.specs.Classes.{class_at, nodes_at, AreClasses, FindsFewest, HasChanged, HasCome, HasLeft, IsOfCells};
-ghost use Rattle.size_precheck.specs.Joints.{IsWith, IsWithout};
+ghost use Rattle.size_precheck.specs.Joints.{cells_in, HasPlaces, IsWith, IsWithout};
 
+use crate::joints::{Known, counted_of};
 use node_sets::NodeSet;
 use std::alloc::{AllocError, Global};
 
@@ -142,18 +143,14 @@ pub fn move_node(
 }
 
 /// The classes of these nodes, by the cells that are counted for each.
-pub fn list_classes(
-    alloc: Global,
-    counts: &[u64],
-    nodes: &NodeSet,
-) -> Result<Vec<Class>, AllocError>
-    requires { (v : ℕ) → IsIn nodes.now v → v < length counts.now }
-    ensures { IfOk result (λ classes. AreClasses counts.now (holds nodes.now) classes.items) }
+pub fn list_classes(alloc: Global, known: &Known, nodes: &NodeSet) -> Result<Vec<Class>, AllocError>
+    requires { HasPlaces (IsIn nodes.now) known.now }
+    ensures { IfOk result (λ list. AreClasses (cells_in known.now) (holds nodes.now) list.items) }
 {
     let mut classes = Vec::with_capacity(alloc, 2 * FEW)?;
     let mut from = 0;
     'nodes: while let Some(v) = nodes.first_from(from) {
-        put_node(&mut classes, v, counts[v])?;
+        put_node(&mut classes, v, counted_of(known, v).cells)?;
         from = v + 1;
     }
     Ok(classes)

@@ -2,17 +2,18 @@
 //!
 //! What a sum gives does not depend on its order, so no clause says in which order the nodes come: that serves speed alone.
 
-ghost use Rattle.std.specs.Prelude.{◌≡◌, ◌↔◌, ℕ, ◌*◌, ◌<◌, ◌≤◌, length, min, IfOk};
+ghost use Rattle.std.specs.Prelude.{◌≡◌, ◌↔◌, ℕ, ◌*◌, ◌<◌, length, min, IfOk};
 ghost use Rattle.maid_model.specs.Nodes.{IsDecision};
 ghost use Rattle.node_sets.specs.declared.sets.TheConstants.{MOST_NODES};
 ghost use Rattle.node_sets.specs.Sets.{IsIn};
 ghost use Rattle.size_precheck.specs.Decisions.{HaveNodesBelow, IsNodeOf, IsStepOf, ListsOnceOrNone, ListsStepsOrNone};
 ghost use Rattle.size_precheck.specs.Families.{IsPlanner};
+ghost use Rattle.size_precheck.specs.Joints.{HasPlaces, KeepsPlaces};
 ghost use Rattle.size_precheck.specs.Sizes.{ArePlansOfGoals};
 
 use crate::classes::{find_next, list_classes, take_node};
 use crate::counts::{count_cells, count_members};
-use crate::joints::{Known, count_of};
+use crate::joints::{Known, counted_of};
 use crate::planners::{Family, Planner};
 use crate::plans::Plan;
 use crate::simulation::eliminate;
@@ -60,8 +61,9 @@ fn time_of_plans(plans: &[Plan]) -> u64 {
     time
 }
 
-/// How long a joint sum of so many steps and so much work takes, in a plan's steps of work. The work of the last product
-/// is left out: it goes over one table, and most of the time is that of the steps.
+/// How long a joint sum of so many steps and so much work takes, in a plan's steps of work. The
+/// work of the last product is left out: it may go over several tables, but it gives one alone,
+/// and most of the time is that of the steps.
 fn time_of_joint(steps: usize, work: u64) -> u64 {
     let cells = PAIR_TIME.saturating_mul(work);
     JOINT_STEP_TIME
@@ -100,7 +102,7 @@ fn all_steps(plans: &[Plan]) -> NodeSet
 
 /// The nodes of the plans: those that one of them keeps or eliminates.
 fn all_members(plans: &[Plan]) -> NodeSet
-    ensures { (v : ℕ) → IsIn result v → IsNodeOf plans.now v }
+    ensures { (v : ℕ) → IsIn result v ↔ IsNodeOf plans.now v }
 {
     let mut members = NodeSet::empty();
     for plan in plans {
@@ -131,10 +133,8 @@ fn put_goals(
     plans: &[Plan],
 ) -> u64
     requires states { length states.now ≡ MOST_NODES }
-    requires len { length known.old.counts.items ≡ length known.old.joints.items }
-    requires within { (y : ℕ) → IsIn waiting.now y → y < length known.old.joints.items }
-    ensures len { length known.new.joints.items ≡ length known.old.joints.items }
-    ensures counts_len { length known.new.counts.items ≡ length known.old.counts.items }
+    requires places { HasPlaces (IsIn waiting.now) known.old }
+    ensures { KeepsPlaces known.old known.new }
 {
     let count = diagram.count();
     let mut cells: u64 = 0;
@@ -161,19 +161,18 @@ fn order_all(
     limits: &JointLimits,
 ) -> Result<Vec<usize>, AllocError>
     requires states { length states.now ≡ MOST_NODES }
-    requires len { length known.counts.items ≡ length known.joints.items }
-    requires within { (y : ℕ) → IsIn waiting.now y → y < length known.joints.items }
+    requires places { HasPlaces (IsIn waiting.now) known }
     ensures { IfOk result (λ order. ListsOnceOrNone (IsIn waiting.now) order.items) }
 {
     let mut rest: NodeSet = *waiting;
     let count = count_members(waiting);
     let mut order = Vec::with_capacity(alloc, count)?;
-    let mut classes = list_classes(alloc, &known.counts, &rest)?;
+    let mut classes = list_classes(alloc, &known, &rest)?;
     let (mut cells, mut work) = (first_cells, 0);
     for _ in 0..count {
         match find_next(&classes) {
             Some(v) if v < states.len() && rest.holds(v) && limits.allow(count, cells, work) => {
-                take_node(&mut classes, v, count_of(&known, v));
+                take_node(&mut classes, v, counted_of(&known, v).cells);
                 rest.remove(v);
                 order.push(v)?;
                 let made = eliminate(states, &mut known, &mut classes, &rest, v)?;

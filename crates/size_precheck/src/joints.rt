@@ -1,11 +1,12 @@
 //! What is known of each node while the tables of a plan are simulated.
 
-ghost use Rattle.std.specs.Prelude.{◌≡◌, ℕ, ◌<◌, length, slice_index};
+ghost use Rattle.std.specs.Prelude.{◌≡◌, ℕ, ◌<◌, length, OnOk};
 ghost use Rattle.node_sets.specs.declared.sets.TheConstants.{MOST_NODES};
 ghost use Rattle.node_sets.specs.Sets.{IsIn};
-ghost use Rattle.size_precheck.specs.Joints.{joint_at, IsPut, IsPutToAll};
+ghost use Rattle.size_precheck.specs.Joints.{counted_in, joint_at, HasPlace, IsPut, IsPutToAll, TakesPlace};
 
 use node_sets::NodeSet;
+use std::alloc::AllocError;
 
 /// A table: the number of the node that it came of, and the nodes of its scope.
 #[derive(Clone, Copy)]
@@ -47,13 +48,21 @@ impl Joint {
     }
 }
 
-/// What is known of each node where some tables are live. What it says of nodes that do not wait does not count.
+/// The live tables that hold a node, and the cells of its joined set.
+#[derive(Clone, Copy)]
+pub struct Counted {
+    pub joint: Joint,
+    pub cells: u64,
+}
+
+/// What is known of each node that waits, where some tables are live. Of a large diagram few nodes
+/// wait, so that those alone have an entry.
 #[derive(Drop)]
 pub struct Known {
-    /// For each node the live tables that hold it.
-    pub joints: Vec<Joint>,
-    /// The cells of their joined sets.
-    pub counts: Vec<u64>,
+    /// For each node the place of its entry. It does not count for nodes that do not wait.
+    pub places: Vec<u8>,
+    /// What is known of the nodes that wait, each at its place.
+    pub held: Vec<Counted>,
 }
 
 /// Puts a table to each of these nodes, after the tables `gone` and the nodes `out` have left.
@@ -71,18 +80,21 @@ pub fn put_table(joints: &mut [Joint], at: &NodeSet, table: &Table, gone: &NodeS
     }
 }
 
-/// The live tables that hold the node.
-pub fn joint_of(known: &Known, v: usize) -> Joint
-    requires { v < length known.now.joints.items }
-    ensures { result ≡ joint_at known.now.joints.items v }
+/// Gives a node the next place, for what is known of it.
+pub fn give_place(known: &mut Known, y: usize, counted: Counted) -> Result<(), AllocError>
+    requires room { length known.old.held.items < MOST_NODES }
+    requires here { y < length known.old.places.items }
+    ensures { OnOk result (TakesPlace y counted known.old known.new) }
 {
-    known.joints[v]
+    known.places[y] = known.held.len() as u8;
+    known.held.push(counted)?;
+    Ok(())
 }
 
-/// The cells of the node's joined set.
-pub fn count_of(known: &Known, v: usize) -> u64
-    requires { v < length known.now.counts.items }
-    ensures { result ≡ slice_index known.now.counts.items v }
+/// What is known of a node that waits.
+pub fn counted_of(known: &Known, v: usize) -> &Counted
+    requires { HasPlace known.now v }
+    ensures { result.now ≡ counted_in known.now v }
 {
-    known.counts[v]
+    &known.held[known.places[v] as usize]
 }

@@ -5,18 +5,18 @@ ghost use Rattle.maid_model.specs.declared.limits.TheConstants.{COUNT_END};
 ghost use Rattle.node_sets.specs.declared.sets.TheConstants.{MOST_NODES};
 ghost use Rattle.node_sets.specs.Sets.{IsIn};
 ghost use Rattle.size_precheck.specs.Classes.{StayIn, StayWithAll};
-ghost use Rattle.size_precheck.specs.Joints.{AllStayCounted, AreKnownTo, ArePutIn, HasCountForEach, IsCountedIn, IsListOf, IsPutIn, IsRunFrom, IsStartOfSome, KeepsOtherCount, KeepsOtherCounts, KeepsOtherJoint, KeepsOtherJoints, MakesStep, StaysCounted};
+ghost use Rattle.size_precheck.specs.Joints.{AllStayCounted, ArePutIn, HasPlace, HasPlaces, IsCounted, IsListOf, IsPut, IsRunFrom, IsStartOfSome, KeepsOthers, KeepsPlaces, MakesStep};
 
 use crate::classes::{Class, find_next, list_classes, move_node, take_node};
 use crate::counts::{add, count_cells, count_less, count_members, count_put, multiply};
-use crate::joints::{Known, Table, count_of, joint_of};
+use crate::joints::{Counted, Known, Table, counted_of};
 use node_sets::NodeSet;
 use std::alloc::{AllocError, Global};
 
 /// What is known before the first step.
 #[derive(Drop)]
 pub struct Start {
-    /// Of each node, where the first tables are live.
+    /// Of each node that waits, where the first tables are live.
     pub known: Known,
     /// How many tables are live.
     pub live: usize,
@@ -61,66 +61,52 @@ pub fn list_members(alloc: Global, set: &NodeSet) -> Result<Vec<usize>, AllocErr
     Ok(list)
 }
 
-/// Puts a first table to y, and counts the cells of its joined set.
-fn put_first_at(states: &[u64], known: &mut Known, y: usize, table: &Table, none: &NodeSet)
+/// Puts a first table to what is known of a node, and counts the cells of the joined set.
+fn put_first_at(states: &[u64], held: &mut Counted, table: &Table, none: &NodeSet)
     requires states { length states.now ≡ MOST_NODES }
     requires tag { table.now.tag < MOST_NODES }
-    requires len { length known.old.counts.items ≡ length known.old.joints.items }
-    requires here { y < length known.old.joints.items }
-    ensures joints_len { length known.new.joints.items ≡ length known.old.joints.items }
-    ensures counts_len { length known.new.counts.items ≡ length known.old.counts.items }
-    ensures put { IsPutIn table.now none.now none.now known.old known.new y }
-    ensures counted { IsCountedIn states.now known.new y }
-    ensures same { KeepsOtherJoint y known.old known.new }
-    ensures kept { KeepsOtherCount y known.old known.new }
+    ensures put { IsPut table.now (IsIn none.now) (IsIn none.now) held.old.joint held.new.joint }
+    ensures counted { IsCounted states.now held.new.joint held.new.cells }
 {
-    known.joints[y].put(table, none, none);
-    known.counts[y] = count_cells(states, &known.joints[y].set);
+    held.joint.put(table, none, none);
+    held.cells = count_cells(states, &held.joint.set);
 }
 
-/// Puts the table to y, after the tables `gone` and the node of its tag, which `out` has, have left, and counts the cells
-/// of its joined set anew.
-fn put_at(states: &[u64], known: &mut Known, y: usize, table: &Table, gone: &NodeSet, out: &NodeSet)
+/// Puts the table to what is known of a node, after the tables `gone` and the node of its tag,
+/// which `out` has, have left, and counts the cells of the joined set anew.
+fn put_at(states: &[u64], held: &mut Counted, table: &Table, gone: &NodeSet, out: &NodeSet)
     requires states { length states.now ≡ MOST_NODES }
     requires tag { table.now.tag < MOST_NODES }
     requires out { (x : ℕ) → IsIn out.now x ↔ (x ≡ table.now.tag) }
-    requires len { length known.old.counts.items ≡ length known.old.joints.items }
-    requires here { y < length known.old.joints.items }
-    ensures joints_len { length known.new.joints.items ≡ length known.old.joints.items }
-    ensures counts_len { length known.new.counts.items ≡ length known.old.counts.items }
-    ensures put { IsPutIn table.now gone.now out.now known.old known.new y }
-    ensures counted { StaysCounted states.now known.old known.new y }
-    ensures same { KeepsOtherJoint y known.old known.new }
-    ensures kept { KeepsOtherCount y known.old known.new }
+    ensures put { IsPut table.now (IsIn gone.now) (IsIn out.now) held.old.joint held.new.joint }
+    ensures counted { IsCounted states.now held.old.joint held.old.cells
+        → IsCounted states.now held.new.joint held.new.cells }
 {
-    let before = known.counts[y];
-    known.counts[y] = count_put(
+    held.cells = count_put(
         states,
-        &known.joints[y].set,
+        &held.joint.set,
         &table.scope,
         out,
         table.tag,
-        before,
+        held.cells,
     );
-    known.joints[y].put(table, gone, out);
+    held.joint.put(table, gone, out);
 }
 
 /// Puts a first table to each of these nodes.
 pub fn put_first(states: &[u64], known: &mut Known, at: &NodeSet, table: &Table, none: &NodeSet)
     requires states { length states.now ≡ MOST_NODES }
     requires tag { table.now.tag < MOST_NODES }
-    requires len { length known.old.counts.items ≡ length known.old.joints.items }
-    requires within { (y : ℕ) → IsIn at.now y → y < length known.old.joints.items }
-    ensures joints_len { length known.new.joints.items ≡ length known.old.joints.items }
-    ensures counts_len { length known.new.counts.items ≡ length known.old.counts.items }
+    requires places { HasPlaces (IsIn at.now) known.old }
+    ensures places { KeepsPlaces known.old known.new }
     ensures put { ArePutIn at.now table.now none.now none.now known.old known.new }
     ensures counted { AllStayCounted states.now at.now known.old known.new }
-    ensures same { KeepsOtherJoints at.now known.old known.new }
-    ensures kept { KeepsOtherCounts at.now known.old known.new }
+    ensures same { KeepsOthers (IsIn at.now) known.old known.new }
 {
     let mut from = 0;
     'nodes: while let Some(y) = at.first_from(from) {
-        put_first_at(states, known, y, table, none);
+        let place = known.places[y] as usize;
+        put_first_at(states, &mut known.held[place], table, none);
         from = y + 1;
     }
 }
@@ -139,21 +125,20 @@ fn put_made(
     requires states { length states.now ≡ MOST_NODES }
     requires tag { table.now.tag < MOST_NODES }
     requires out { (x : ℕ) → IsIn out.now x ↔ (x ≡ table.now.tag) }
-    requires len { length known.old.counts.items ≡ length known.old.joints.items }
-    requires within { (y : ℕ) → IsIn at.now y → y < length known.old.joints.items }
-    ensures joints_len { length known.new.joints.items ≡ length known.old.joints.items }
-    ensures counts_len { length known.new.counts.items ≡ length known.old.counts.items }
+    requires places { HasPlaces (IsIn at.now) known.old }
+    ensures places { KeepsPlaces known.old known.new }
     ensures put { OnOk result (ArePutIn at.now table.now gone.now out.now known.old known.new) }
     ensures counted { OnOk result (AllStayCounted states.now at.now known.old known.new) }
-    ensures same { KeepsOtherJoints at.now known.old known.new }
-    ensures kept { KeepsOtherCounts at.now known.old known.new }
+    ensures same { KeepsOthers (IsIn at.now) known.old known.new }
     ensures classes { OnOk result (StayWithAll at.now known.old classes.old known.new classes.new) }
 {
     let mut from = 0;
     'nodes: while let Some(y) = at.first_from(from) {
-        let before = known.counts[y];
-        put_at(states, known, y, table, gone, out);
-        move_node(classes, y, before, known.counts[y])?;
+        let place = known.places[y] as usize;
+        let held = &mut known.held[place];
+        let before = held.cells;
+        put_at(states, held, table, gone, out);
+        move_node(classes, y, before, held.cells)?;
         from = y + 1;
     }
     Ok(())
@@ -169,35 +154,32 @@ pub fn eliminate(
 ) -> Result<Made, AllocError>
     requires states { length states.now ≡ MOST_NODES }
     requires small { v < MOST_NODES }
-    requires len { length known.old.counts.items ≡ length known.old.joints.items }
-    requires here { v < length known.old.joints.items }
-    requires within { (y : ℕ) → IsIn waiting.now y → y < length known.old.joints.items }
+    requires here { HasPlace known.old v }
+    requires places { HasPlaces (IsIn waiting.now) known.old }
     requires apart { IsIn waiting.now v → ⊥ }
-    ensures joints_len { length known.new.joints.items ≡ length known.old.joints.items }
-    ensures counts_len { length known.new.counts.items ≡ length known.old.counts.items }
+    ensures places { KeepsPlaces known.old known.new }
     ensures few { IfOk result (λ made. made.cells ≤ COUNT_END) }
     ensures little { IfOk result (λ made. made.work ≤ COUNT_END) }
     ensures classes { OnOk result (StayIn waiting.now known.old classes.old known.new classes.new) }
     ensures step { IfOk result (MakesStep states.now waiting.now v known.old known.new) }
 {
-    let joint = joint_of(known, v);
+    let held = *counted_of(known, v);
     let own = NodeSet::of(v);
-    let scope = joint.set.difference(&own);
+    let scope = held.joint.set.difference(&own);
     let at = scope.intersection(waiting);
-    let tables = count_members(&joint.tables);
-    let joined = count_of(known, v);
+    let tables = count_members(&held.joint.tables);
     put_made(
         states,
         known,
         classes,
         &at,
         &Table { tag: v, scope },
-        &joint.tables,
+        &held.joint.tables,
         &own,
     )?;
     Ok(Made {
-        cells: count_less(states, &joint.set, &scope, v, joined),
-        work: multiply(joined, tables as u64),
+        cells: count_less(states, &held.joint.set, &scope, v, held.cells),
+        work: multiply(held.cells, tables as u64),
         tables,
     })
 }
@@ -210,8 +192,8 @@ pub fn eliminate_all(
     waiting: NodeSet,
 ) -> Result<Run, AllocError>
     requires states { length states.now ≡ MOST_NODES }
-    requires within { AreKnownTo start waiting }
-    requires len { HasCountForEach start }
+    requires small { (y : ℕ) → IsIn waiting y → y < MOST_NODES }
+    requires places { HasPlaces (IsIn waiting) start.known }
     requires few { start.live ≤ MOST_NODES + 1 }
     requires started { IsStartOfSome states.now waiting start }
     ensures run { IfOk result (IsRunFrom states.now waiting start) }
@@ -225,10 +207,10 @@ pub fn eliminate_all(
         mut live,
         mut cells,
     } = start;
-    let mut classes = list_classes(alloc, &known.counts, &rest)?;
+    let mut classes = list_classes(alloc, &known, &rest)?;
     let mut work = 0;
     'steps: while let Some(v) = find_next(&classes) {
-        take_node(&mut classes, v, count_of(&known, v));
+        take_node(&mut classes, v, counted_of(&known, v).cells);
         rest.remove(v);
         steps.push(v)?;
         let made = eliminate(states, &mut known, &mut classes, &rest, v)?;

@@ -6,12 +6,12 @@ ghost use Rattle.maid_model.specs.Nodes.{parents_of};
 ghost use Rattle.node_sets.specs.declared.sets.TheConstants.{MOST_NODES};
 ghost use Rattle.node_sets.specs.Sets.{IsIn};
 ghost use Rattle.plan_sums.specs.Sizes.{IsPlan};
-ghost use Rattle.size_precheck.specs.Families.{AreAbove, AreNarrowed, HasCountsOf, HasJointsOf, IsAboveOne, IsInTableOf, IsNarrowedFrom, IsNarrowedIn, IsOfFamily, IsPlanner, IsRuled, IsBegun};
-ghost use Rattle.size_precheck.specs.Joints.{AllStayCounted, AreStateCounts, HasCountForEach, HasJointForEach, KeepsOtherCount, KeepsOtherJoint, TellsOneMore};
+ghost use Rattle.size_precheck.specs.Families.{AreAbove, IsAboveOne, IsInTableOf, IsNarrowed, IsNarrowedFrom, IsOfFamily, IsPlanner, IsRuled, IsBegun};
+ghost use Rattle.size_precheck.specs.Joints.{AllStayCounted, AreStateCounts, HasPlaces, KeepsPlaces, TellsOneMore};
 ghost use Rattle.size_precheck.specs.Sizes.{plan_of, IsOfPlan};
 
-use crate::counts::{add, count_cells};
-use crate::joints::{Joint, Known, Table, joint_of};
+use crate::counts::{add, count_cells, count_members};
+use crate::joints::{Counted, Joint, Known, Table, give_place};
 use crate::planners::{Family, Planner};
 use crate::simulation::{Start, put_first};
 use maid_model::{Diagram, MOST_NODES};
@@ -120,52 +120,33 @@ fn has_no_other(joint: &Joint, tables: &NodeSet) -> bool
     }
 }
 
-/// Leaves of y's tables those of these nodes alone.
-fn narrow(states: &[u64], families: &[Family], known: &mut Known, ruled: &NodeSet, y: usize)
+/// Of what is known of a node, what is left where it has the tables of these nodes alone.
+fn narrowed(
+    states: &[u64],
+    families: &[Family],
+    joint: &Joint,
+    cells: u64,
+    ruled: &NodeSet,
+) -> Counted
     requires states { length states.now ≡ MOST_NODES }
     requires ruled { (v : ℕ) → IsIn ruled.now v → v < length families.now }
-    requires here { y < length known.old.joints.items }
-    requires len { length known.old.counts.items ≡ length known.old.joints.items }
-    ensures joints_len { length known.new.joints.items ≡ length known.old.joints.items }
-    ensures counts_len { length known.new.counts.items ≡ length known.old.counts.items }
-    ensures tables { IsNarrowedIn states.now families.now ruled.now y known.old known.new }
-    ensures same { KeepsOtherJoint y known.old known.new }
-    ensures kept { KeepsOtherCount y known.old known.new }
+    ensures { IsNarrowed states.now families.now ruled.now joint.now cells result }
 {
-    let joint = joint_of(known, y);
-    if has_no_other(&joint, ruled) {
-        return;
+    if has_no_other(joint, ruled) {
+        return Counted {
+            joint: *joint,
+            cells,
+        };
     }
     let tables = joint.tables.intersection(ruled);
     let set = nodes_of_tables(families, &tables);
-    known.counts[y] = count_cells(states, &set);
-    known.joints[y] = Joint { set, tables };
-}
-
-/// Leaves of the tables of the nodes that wait those of these nodes alone.
-fn narrow_all(
-    states: &[u64],
-    families: &[Family],
-    known: &mut Known,
-    ruled: &NodeSet,
-    waiting: &NodeSet,
-)
-    requires states { length states.now ≡ MOST_NODES }
-    requires ruled { (v : ℕ) → IsIn ruled.now v → v < length families.now }
-    requires within { (y : ℕ) → IsIn waiting.now y → y < length known.old.joints.items }
-    requires len { length known.old.counts.items ≡ length known.old.joints.items }
-    ensures joints_len { length known.new.joints.items ≡ length known.old.joints.items }
-    ensures counts_len { length known.new.counts.items ≡ length known.old.counts.items }
-    ensures tables { AreNarrowed states.now families.now ruled.now waiting.now known.old known.new }
-{
-    let mut from = 0;
-    'nodes: while let Some(y) = waiting.first_from(from) {
-        narrow(states, families, known, ruled, y);
-        from = y + 1;
+    Counted {
+        cells: count_cells(states, &set),
+        joint: Joint { set, tables },
     }
 }
 
-/// Copies of what is known of the nodes, in which those that wait have the tables of these nodes alone.
+/// What is known of the nodes that wait, where they have the tables of these nodes alone.
 pub fn list_narrowed(
     alloc: Global,
     planner: &Planner,
@@ -176,21 +157,27 @@ pub fn list_narrowed(
     requires len { length planner.now.counts.items ≡ length planner.now.joints.items }
     requires ruled { (v : ℕ) → IsIn ruled.now v → v < length planner.now.families.items }
     requires waiting { (v : ℕ) → IsIn waiting.now v → v < length planner.now.joints.items }
-    ensures joints_len { IfOk result (HasJointsOf planner.now) }
-    ensures counts_len { IfOk result (HasCountsOf planner.now) }
+    ensures places { IfOk result (HasPlaces (IsIn waiting.now)) }
     ensures narrowed { IfOk result (IsNarrowedFrom planner.now ruled.now waiting.now) }
 {
+    let states = planner.states.as_slice();
+    let families = planner.families.as_slice();
     let mut known = Known {
-        joints: Vec::from_slice(alloc, &planner.joints)?,
-        counts: Vec::from_slice(alloc, &planner.counts)?,
+        places: vec![in alloc; 0; MOST_NODES]?,
+        held: Vec::with_capacity(alloc, count_members(waiting))?,
     };
-    narrow_all(
-        &planner.states,
-        &planner.families,
-        &mut known,
-        ruled,
-        waiting,
-    );
+    let mut from = 0;
+    'nodes: while let Some(y) = waiting.first_from(from) {
+        let left = narrowed(
+            states,
+            families,
+            &planner.joints[y],
+            planner.counts[y],
+            ruled,
+        );
+        give_place(&mut known, y, left)?;
+        from = y + 1;
+    }
     Ok(known)
 }
 
@@ -198,10 +185,8 @@ pub fn list_narrowed(
 pub fn put_utility(states: &[u64], known: &mut Known, waiting: &NodeSet, table: &Table)
     requires states { length states.now ≡ MOST_NODES }
     requires tag { table.now.tag < MOST_NODES }
-    requires len { length known.old.counts.items ≡ length known.old.joints.items }
-    requires within { (y : ℕ) → IsIn waiting.now y → y < length known.old.joints.items }
-    ensures len { length known.new.joints.items ≡ length known.old.joints.items }
-    ensures counts_len { length known.new.counts.items ≡ length known.old.counts.items }
+    requires places { HasPlaces (IsIn waiting.now) known.old }
+    ensures places { KeepsPlaces known.old known.new }
     ensures tells { TellsOneMore waiting.now table.now known.old known.new }
     ensures counted { AllStayCounted states.now waiting.now known.old known.new }
 {
@@ -250,8 +235,7 @@ pub fn put_all_first(
     requires known { (u : ℕ) → utility ≡ Some u → u < length diagram.now.nodes }
     requires unruled { (u : ℕ) → utility ≡ Some u → IsIn ruled.now u → ⊥ }
     requires kept { (u : ℕ) → utility ≡ Some u → IsIn waiting.now u → ⊥ }
-    ensures len { IfOk result (HasJointForEach diagram.now) }
-    ensures counts { IfOk result HasCountForEach }
+    ensures places { IfOk result (λ start. HasPlaces (IsIn waiting.now) start.known) }
     ensures few { IfOk result (λ start. start.live ≤ MOST_NODES + 1) }
     ensures started { IfOk result (IsBegun diagram.now planner.now ruled.now utility waiting.now) }
 {

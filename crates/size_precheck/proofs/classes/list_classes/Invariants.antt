@@ -1,5 +1,6 @@
 use Rattle.std.proofs.Common.{◌-◌, ◌≤◌}
 use Rattle.size_precheck.specs.Classes.{AreClasses}
+use Rattle.size_precheck.specs.Joints.{cells_in}
 use Rattle.size_precheck.proofs.Classing.{before_number}
 use Rattle.size_precheck.proofs.classes.list_classes.Given as goal
 
@@ -7,7 +8,7 @@ use Rattle.size_precheck.proofs.classes.list_classes.Given as goal
 abbrev pub invariant-nodes : goal.invariant-nodes
 invariant-nodes l = record {
   within : l.from ≤ 256;
-  classes : AreClasses l.counts (before_number l.nodes l.from) l.classes.items;
+  classes : AreClasses (cells_in l.known) (before_number l.nodes l.from) l.classes.items;
 }
 
 abbrev pub decreases-nodes : goal.decreases-nodes

@@ -3,7 +3,7 @@ use Rattle.std.proofs.lemmas.List.{take_all}
 use Rattle.node_sets.specs.Sets.{IsIn}
 use Rattle.size_precheck.specs.Decisions.{IsStepOf}
 use Rattle.size_precheck.specs.Sizes.{SizedPlan}
-use Rattle.size_precheck.proofs.Ordering.{steps_more}
+use Rattle.size_precheck.proofs.Ordering.{gathers_more}
 use Rattle.size_precheck.proofs.joint_orders.all_steps.Goals as goal
 
 pub insert_all-requires : goal.insert_all-requires
@@ -12,7 +12,7 @@ insert_all-requires c v m =
 
 pub loop-plan-preserved : goal.loop-plan-preserved
 loop-plan-preserved c =
-    steps_more c.args.plans.now c.loop-plan.plan-index c.plan-item.result c.loop-plan.steps c.insert_all.new.self c.loop-plan-test.true c.plan-item.is c.loop-plan.invariant
+    gathers_more (λ (p : SizedPlan) v. Contains p.steps v) c.args.plans.now c.loop-plan.plan-index c.plan-item.result c.loop-plan.steps c.insert_all.new.self c.loop-plan-test.true c.plan-item.is c.loop-plan.invariant
     (λ v. subst (λ (l : List ℕ). IsIn c.insert_all.new.self v ↔ (IsIn c.loop-plan.steps v ⊎ Contains l v)) c.steps.ensures (c.insert_all.ensures.all v))
 
 pub returns : goal.returns

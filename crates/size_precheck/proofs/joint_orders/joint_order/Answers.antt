@@ -9,6 +9,7 @@ use Rattle.size_precheck.specs.declared.planners.Family.{Family}
 use Rattle.size_precheck.specs.Decisions.{HaveNodesBelow, IsStepOf, ListsOnceOrNone, ListsStepsOrNone}
 use Rattle.size_precheck.specs.Sizes.{ArePlansOfGoals, SizedPlan, goal_list}
 use Rattle.size_precheck.proofs.Ordering.{lists_alike, nodes_below}
+use Rattle.size_precheck.proofs.Placed.{placed_still}
 use Rattle.size_precheck.proofs.joint_orders.joint_order.Goals as goal
 
 below : (nodes : List NodeView) (d : ℕ) (goals : List SizedPlan) → ArePlansOfGoals nodes d goals → HaveNodesBelow (length nodes) goals
@@ -27,23 +28,18 @@ all_steps-waiting-requires c v m =
 -- one that has a table of its own has a family
 pub cells_of_tables-requires : goal.cells_of_tables-requires
 cells_of_tables-requires c v m =
-    subst (λ (n : ℕ). v < n) (sym (ap (λ (l : List Family). length l) c.deref.ensures.value ∙ c.requires.planner.all)) (below c.args.diagram.now.nodes c.args.decision c.args.goals.now c.requires.goals v (c.all_members-members.ensures v ((c.remove.ensures v).0 m).0))
+    subst (λ (n : ℕ). v < n) (sym (ap (λ (l : List Family). length l) c.deref.ensures.value ∙ c.requires.planner.all)) (below c.args.diagram.now.nodes c.args.decision c.args.goals.now c.requires.goals v ((c.all_members-members.ensures v).0 ((c.remove.ensures v).0 m).0))
 
 pub list_narrowed-requires-clause-ruled : goal.list_narrowed-requires-clause-ruled
 list_narrowed-requires-clause-ruled c v m =
-    subst (λ (n : ℕ). v < n) (sym c.requires.planner.all) (below c.args.diagram.now.nodes c.args.decision c.args.goals.now c.requires.goals v (c.all_members-members.ensures v ((c.remove.ensures v).0 m).0))
+    subst (λ (n : ℕ). v < n) (sym c.requires.planner.all) (below c.args.diagram.now.nodes c.args.decision c.args.goals.now c.requires.goals v ((c.all_members-members.ensures v).0 ((c.remove.ensures v).0 m).0))
 
 pub list_narrowed-requires-clause-waiting : goal.list_narrowed-requires-clause-waiting
 list_narrowed-requires-clause-waiting c v m =
     subst (λ (n : ℕ). v < n) (sym c.requires.planner.joints_len) (waits c.args.diagram.now.nodes c.args.decision c.args.goals.now c.all_steps-waiting.result v c.requires.goals c.all_steps-waiting.ensures m)
 
-pub put_goals-requires-clause-within : goal.put_goals-requires-clause-within
-put_goals-requires-clause-within c v m =
-    subst (λ (n : ℕ). v < n) (sym (c.in_ok-known.ensures.joints_len ∙ c.requires.planner.joints_len)) (waits c.args.diagram.now.nodes c.args.decision c.args.goals.now c.all_steps-waiting.result v c.requires.goals c.all_steps-waiting.ensures m)
-
-pub order_all-requires-clause-within : goal.order_all-requires-clause-within
-order_all-requires-clause-within c v m =
-    subst (λ (n : ℕ). v < n) (sym (c.put_goals.ensures.len ∙ c.in_ok-known.ensures.joints_len ∙ c.requires.planner.joints_len)) (waits c.args.diagram.now.nodes c.args.decision c.args.goals.now c.all_steps-waiting.result v c.requires.goals c.all_steps-waiting.ensures m)
+pub order_all-requires-clause-places : goal.order_all-requires-clause-places
+order_all-requires-clause-places c = placed_still c.in_ok-known.known c.put_goals.new.known c.put_goals.ensures (IsIn c.all_steps-waiting.result) c.in_ok-known.ensures.places
 
 pub returns : goal.returns
 returns c =

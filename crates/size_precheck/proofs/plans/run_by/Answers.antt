@@ -41,12 +41,12 @@ put_all_first-requires-clause-kept c u some m =
     let plan : PlanView = record { keep = c.args.keep.now; without = c.args.without; utility = c.args.utility } in
     all_plain c.args.diagram.now.nodes plan c.plan_nodes-nodes.result c.plan_nodes-nodes.ensures c.requires.asked.is_plan u some ((c.difference-waiting.ensures u).0 m).0
 
-pub eliminate_all-requires-clause-within : goal.eliminate_all-requires-clause-within
-eliminate_all-requires-clause-within c y m =
+pub eliminate_all-requires-clause-small : goal.eliminate_all-requires-clause-small
+eliminate_all-requires-clause-small c y m =
     let plan : PlanView = record { keep = c.args.keep.now; without = c.args.without; utility = c.args.utility } in
     let a = all_known c.args.diagram.now.nodes plan c.plan_nodes-nodes.result c.plan_nodes-nodes.ensures y ((c.difference-waiting.ensures y).0 m).0 in
     let b = c.requires.diagram.limits.nodes in
-    (omega (arith, c.in_ok-start.ensures.len), omega arith)
+    omega arith
 
 pub eliminate_all-requires-clause-started : goal.eliminate_all-requires-clause-started
 eliminate_all-requires-clause-started c =
@@ -73,8 +73,8 @@ put_all_first-requires-clause-planner c = c.requires.planner
 pub eliminate_all-requires-clause-states : goal.eliminate_all-requires-clause-states
 eliminate_all-requires-clause-states c = ap (λ (xs : List ℕ). length xs) c.as_slice-states.ensures.value ∙ c.requires.planner.long
 
-pub eliminate_all-requires-clause-len : goal.eliminate_all-requires-clause-len
-eliminate_all-requires-clause-len c = c.in_ok-start.ensures.counts
+pub eliminate_all-requires-clause-places : goal.eliminate_all-requires-clause-places
+eliminate_all-requires-clause-places c = c.in_ok-start.ensures.places
 
 pub eliminate_all-requires-clause-few : goal.eliminate_all-requires-clause-few
 eliminate_all-requires-clause-few c = c.in_ok-start.ensures.few

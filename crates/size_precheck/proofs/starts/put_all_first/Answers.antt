@@ -2,12 +2,12 @@ use Rattle.std.proofs.Common.{◌≡◌, ◌∙◌, ℕ, ◌<◌, ◌≤◌, ◌
 use Rattle.std.specs.Prelude.{option_to_list}
 use Rattle.node_sets.specs.Sets.{holds, IsIn}
 use Rattle.size_precheck.specs.declared.planners.Family.{Family}
-use Rattle.size_precheck.specs.Families.{family_at, IsFamily, IsJointAmong, IsNarrowed}
+use Rattle.size_precheck.specs.Families.{family_at, IsFamily, IsJointAmong}
 use Rattle.size_precheck.specs.declared.simulation.Start.{Start}
-use Rattle.size_precheck.specs.declared.joints.Joint.{Joint}
 use Rattle.size_precheck.specs.declared.joints.Known.{Known}
-use Rattle.size_precheck.specs.Joints.{counted_over, joint_at, IsCountedAt, IsGreedyStart, family_test, parents_test}
+use Rattle.size_precheck.specs.Joints.{counted_over, joint_in, AllStayCounted, HasPlaces, IsCountedIn, IsGreedyStart, family_test, parents_test}
 use Rattle.size_precheck.proofs.Counting.{counted_few, stopped_few}
+use Rattle.size_precheck.proofs.Placed.{placed_still}
 use Rattle.size_precheck.proofs.Putting.{put_none, put_more, started_without, started_with}
 use Rattle.size_precheck.proofs.starts.put_all_first.Goals as goal
 use Rattle.size_precheck.proofs.starts.put_all_first.Goals.{in-Some-utility, in_default-utility}
@@ -53,32 +53,29 @@ returns-clause-started c list listed =
     let inv = c.tables.invariant in
     let nodes = c.args.diagram.now.nodes in
     let states = c.args.planner.now.states.items in
-    let joints : List Joint = c.in_ok-known.known.joints.items in
-    let counts : List ℕ = c.in_ok-known.known.counts.items in
-    let narrowed : (y : ℕ) → IsIn c.args.waiting.now y → IsNarrowed states c.args.planner.now.families.items c.args.planner.now.joints.items c.args.planner.now.counts.items c.args.ruled.now y joints counts = c.in_ok-known.ensures.narrowed in
-    let joined : (y : ℕ) → IsIn c.args.waiting.now y → IsJointAmong nodes (IsIn c.args.ruled.now) y (joint_at joints y) =
-    λ y m. (narrowed y m).joined nodes c.requires.planner.families c.requires.ruled (c.requires.planner.joints y (c.requires.waiting y m)) in
-    let counted : (y : ℕ) → IsIn c.args.waiting.now y → IsCountedAt states joints counts y = λ y m. (narrowed y m).counted (c.requires.planner.counts y (c.requires.waiting y m)) in
+    let known : Known = c.in_ok-known.known in
+    let joined : (y : ℕ) → IsIn c.args.waiting.now y → IsJointAmong nodes (IsIn c.args.ruled.now) y (joint_in known y) =
+    λ y m. (c.in_ok-known.ensures.narrowed y m).joined nodes y c.requires.planner.families c.requires.ruled (c.requires.planner.joints y (c.requires.waiting y m)) in
+    let counted : (y : ℕ) → IsIn c.args.waiting.now y → IsCountedIn states known y = λ y m. (c.in_ok-known.ensures.narrowed y m).counted (c.requires.planner.counts y (c.requires.waiting y m)) in
     let start : Start = record { known = c.match-utility.known; live = c.match-utility.live; cells = c.match-utility.cells } in
     elim c.match-utility.branch [
       | in-Some-utility w ↦
           let u : ℕ = w.in-Some-utility.u in
           let some : c.args.utility ≡ Some u = w.in-Some-utility.is in
           let small : u < 256 = let a = c.requires.known u some in let b = c.requires.planner.states.few in omega arith in
+          let known' : Known = w.put_utility.new.known in
           subst (λ (o : Option ℕ). IsGreedyStart nodes states (IsIn c.args.waiting.now) (map (family_test nodes) list ++ map (parents_test nodes) (option_to_list o)) start) (sym some)
-          (started_with nodes states c.args.ruled.now c.args.waiting.now c.tables.from inv.within c.in_default.ensures c.requires.planner.states joints counts joined counted c.tables.live c.tables.cells inv.put list listed
-          u w.utility_table-table.result w.put_utility.new.known.joints.items w.put_utility.new.known.counts.items w.count_cells.result start small (c.requires.unruled u some) (c.requires.kept u some)
+          (started_with nodes states c.args.ruled.now c.args.waiting.now c.tables.from inv.within c.in_default.ensures c.requires.planner.states known joined counted c.tables.live c.tables.cells inv.put list listed
+          u w.utility_table-table.result known' w.count_cells.result start small (c.requires.unruled u some) (c.requires.kept u some)
           w.utility_table-table.ensures.tag w.utility_table-table.ensures.scope
           w.put_utility.ensures.tells
-          (λ (y : ℕ) m h.
-          subst (λ (xs : List ℕ). IsCountedAt xs w.put_utility.new.known.joints.items w.put_utility.new.known.counts.items y) c.as_slice-states.ensures.value
-          (w.put_utility.ensures.counted y m (subst (λ (xs : List ℕ). IsCountedAt xs joints counts y) (sym c.as_slice-states.ensures.value) h)))
+          (subst (λ (xs : List ℕ). AllStayCounted xs c.args.waiting.now known known') c.as_slice-states.ensures.value w.put_utility.ensures.counted)
           (w.count_cells.ensures ∙ ap (λ (xs : List ℕ). counted_over xs (holds w.utility_table-table.result.scope)) c.as_slice-states.ensures.value)
-          (ap (λ (k : Known). k.joints.items) w.known-is) (ap (λ (k : Known). k.counts.items) w.known-is) w.live-is (w.cells-is ∙ w.add-cells-in-Some-utility.ensures))
+          w.known-is w.live-is (w.cells-is ∙ w.add-cells-in-Some-utility.ensures))
       | in_default-utility w ↦
           subst (λ (o : Option ℕ). IsGreedyStart nodes states (IsIn c.args.waiting.now) (map (family_test nodes) list ++ map (parents_test nodes) (option_to_list o)) start) (sym w.in_default-utility.is)
-          (started_without nodes states c.args.ruled.now c.args.waiting.now c.tables.from inv.within c.in_default.ensures c.requires.planner.states joints counts joined counted c.tables.live c.tables.cells inv.put list listed
-          start (ap (λ (k : Known). k.joints.items) w.known-is) (ap (λ (k : Known). k.counts.items) w.known-is) w.live-is w.cells-is)
+          (started_without nodes states c.args.ruled.now c.args.waiting.now c.tables.from inv.within c.in_default.ensures c.requires.planner.states known joined counted c.tables.live c.tables.cells inv.put list listed
+          start w.known-is w.live-is w.cells-is)
     ]
 
 pub list_narrowed-requires-clause-states : goal.list_narrowed-requires-clause-states
@@ -124,11 +121,8 @@ put_utility-requires-clause-tag c =
     let tag = c.utility_table-table.ensures.tag in
     omega arith
 
-pub put_utility-requires-clause-len : goal.put_utility-requires-clause-len
-put_utility-requires-clause-len c = c.in_ok-known.ensures.counts_len ∙ sym c.in_ok-known.ensures.joints_len
-
-pub put_utility-requires-clause-within : goal.put_utility-requires-clause-within
-put_utility-requires-clause-within c y m = subst (λ (n : ℕ). y < n) (sym (c.in_ok-known.ensures.joints_len ∙ c.requires.planner.joints_len)) (c.requires.waiting y m)
+pub put_utility-requires-clause-places : goal.put_utility-requires-clause-places
+put_utility-requires-clause-places c = c.in_ok-known.ensures.places
 
 pub count_cells-requires : goal.count_cells-requires
 count_cells-requires c = ap (λ (xs : List ℕ). length xs) c.as_slice-states.ensures.value ∙ c.requires.planner.long
@@ -139,20 +133,14 @@ add-cells-requires-in-Some-utility-clause-a c = c.tables.invariant.little
 pub overflow_add-live-in-Some-utility : goal.overflow_add-live-in-Some-utility
 overflow_add-live-in-Some-utility c = let few = c.tables.invariant.few in let within = c.tables.invariant.within in omega arith
 
-pub returns-clause-len : goal.returns-clause-len
-returns-clause-len c =
-    let len = c.in_ok-known.ensures.joints_len ∙ c.requires.planner.joints_len in
+pub returns-clause-places : goal.returns-clause-places
+returns-clause-places c =
+    let waits = IsIn c.args.waiting.now in
+    let known : Known = c.in_ok-known.known in
     elim c.match-utility.branch [
-      | in-Some-utility w ↦ ap (λ (k : Known). length k.joints.items) w.known-is ∙ w.put_utility.ensures.len ∙ len
-      | in_default-utility w ↦ ap (λ (k : Known). length k.joints.items) w.known-is ∙ len
-    ]
-
-pub returns-clause-counts : goal.returns-clause-counts
-returns-clause-counts c =
-    let len = c.in_ok-known.ensures.counts_len ∙ sym c.in_ok-known.ensures.joints_len in
-    elim c.match-utility.branch [
-      | in-Some-utility w ↦ ap (λ (k : Known). length k.counts.items) w.known-is ∙ w.put_utility.ensures.counts_len ∙ len ∙ sym (ap (λ (k : Known). length k.joints.items) w.known-is ∙ w.put_utility.ensures.len)
-      | in_default-utility w ↦ ap (λ (k : Known). length k.counts.items) w.known-is ∙ len ∙ sym (ap (λ (k : Known). length k.joints.items) w.known-is)
+      | in-Some-utility w ↦
+          subst (HasPlaces waits) (sym w.known-is) (placed_still known w.put_utility.new.known w.put_utility.ensures.places waits c.in_ok-known.ensures.places)
+      | in_default-utility w ↦ subst (HasPlaces waits) (sym w.known-is) c.in_ok-known.ensures.places
     ]
 
 pub returns-clause-few : goal.returns-clause-few
