@@ -95,8 +95,12 @@ fn compare_total(rt: &impl Abort, cells: &[i128], states: usize, total: Option<u
 fn plain_rows_have_their_total(rt: HostRuntime) {
     compare_total(&rt, &[1, 2, 3, 0], 4, Some(6));
     compare_total(&rt, &[1, 2, 2, 1], 2, Some(3));
-    // 3 0 shares 3
-    compare_total(&rt, &[1, 2, 3, 0], 2, None);
+    // 3 0 shares 3, and all four numbers nothing
+    compare_total(&rt, &[1, 2, 3, 0], 2, Some(3));
+    // all share 2
+    compare_total(&rt, &[4, 2, 6, 0], 2, None);
+    // all are 0
+    compare_total(&rt, &[0, 0], 2, None);
     // totals 3 and 2
     compare_total(&rt, &[1, 2, 1, 1], 2, None);
     // no row

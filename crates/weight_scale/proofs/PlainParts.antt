@@ -5,7 +5,7 @@ use Rattle.std.proofs.Math.Nat.{eq-one_of_dvd-one, le-div_iff_mul-le}
 use Rattle.std.proofs.lemmas.Nat.Gcd.{dvd-zero, dvd_trans}
 use Rattle.std.proofs.lemmas.List.{get_or_default}
 use Rattle.maid_model.specs.Diagrams.{greatest_number}
-use Rattle.weight_scale.specs.Plain.{ShareNone, AddsUpTo, ArePlainRows}
+use Rattle.weight_scale.specs.Plain.{ShareNone, AddsUpTo, HaveTotal}
 use Rattle.weight_scale.proofs.Lists.{sum_part}
 
 -- ---- the common divisor
@@ -55,8 +55,8 @@ no_total row i so_far s l is first wide total all =
 
 -- ---- all rows
 -- where there is a row there are cells for it
-pub row_needs : (cells : List ℤ) (states total : ℕ) → 0 < states → ArePlainRows cells states total → states ≤ length cells
-row_needs cells states total positive plain = omega (arith, (le-div_iff_mul-le {k = states} {x = 1} {y = length cells} positive).0 (omega (arith, plain.some)))
+pub row_needs : (cells : List ℤ) (states total : ℕ) → 0 < states → HaveTotal cells states total → states ≤ length cells
+row_needs cells states total positive have = omega (arith, (le-div_iff_mul-le {k = states} {x = 1} {y = length cells} positive).0 (omega (arith, have.some)))
 
 -- and the other way round
 pub has_row : (cells : List ℤ) (states : ℕ) → 0 < states → states ≤ length cells → 0 < length cells / states

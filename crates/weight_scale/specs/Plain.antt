@@ -1,4 +1,4 @@
--- Rows of whole numbers that are weights as they stand.
+-- Tables of whole numbers that are weights as they stand.
 use Rattle.std.specs.Prelude.{◌≡◌, ◌<◌, ◌≤◌, ◌/◌, ℕ, ℤ, unsigned_abs, List, All, length, map, sum}
 use Rattle.std.specs.Int.{◌∣◌}
 use Rattle.maid_model.specs.Diagrams.{greatest_number}
@@ -27,18 +27,18 @@ AreOwnTable cells states total =
 
 -- 1 alone divides all numbers
 abbrev pub ShareNone : List ℤ → Type 0
-ShareNone row = (d : ℕ) → All (λ x. d ∣ unsigned_abs x) row → d ∣ 1
+ShareNone numbers = (d : ℕ) → All (λ x. d ∣ unsigned_abs x) numbers → d ∣ 1
 
 -- the numbers add up to the total, which is within the limits
 abbrev pub AddsUpTo : List ℤ → ℕ → Type 0
 AddsUpTo row total = (sum (map unsigned_abs row) ≡ total) × (total ≤ greatest_number)
 
--- a row that is its own reduced row
-pub record IsPlainRow (row : List ℤ) (total : ℕ) : Type 0 where
-  pub alone : ShareNone row
-  pub totals : AddsUpTo row total
-
--- there is a row, and all rows are plain and have this total
-pub record ArePlainRows (cells : List ℤ) (states total : ℕ) : Type 0 where
+-- there is a row, and each row adds up to this total
+pub record HaveTotal (cells : List ℤ) (states total : ℕ) : Type 0 where
   pub some : 0 < length cells / states
-  pub each : (r : ℕ) → r < length cells / states → IsPlainRow (row_at states cells r) total
+  pub each : (r : ℕ) → r < length cells / states → AddsUpTo (row_at states cells r) total
+
+-- so do the rows, and 1 alone divides all of the table's numbers
+pub record ArePlainRows (cells : List ℤ) (states total : ℕ) : Type 0 where
+  pub rows : HaveTotal cells states total
+  pub alone : ShareNone cells

@@ -1,8 +1,8 @@
-//! Rows of whole numbers that are weights as they stand, as those of most tables.
+//! Tables of whole numbers that are weights as they stand, as most are.
 
 ghost use Rattle.std.specs.Prelude.{◌≡◌, ◌<◌, ◌≤ℤ◌, ℕ, All, Decides, IfSome, IfNone, length, pos, unsigned_abs};
 ghost use Rattle.std.specs.Int.{◌∣◌};
-ghost use Rattle.weight_scale.specs.Plain.{ShareNone, AddsUpTo, IsPlainRow, ArePlainRows, AreOwnTable, AreOwnWeights, AreFaultlessAlone};
+ghost use Rattle.weight_scale.specs.Plain.{ShareNone, AddsUpTo, ArePlainRows, AreOwnTable, AreOwnWeights, AreFaultlessAlone, HaveTotal};
 
 use crate::rows::row_at;
 use maid_model::GREATEST_NUMBER;
@@ -15,12 +15,12 @@ fn size(number: i128) -> u128
     number.unsigned_abs()
 }
 
-// No number but 1 divides all of the row's.
-fn share_none(row: &[i128]) -> bool
-    ensures { Decides result (ShareNone row.now) }
+// No number but 1 divides all of these.
+fn share_none(numbers: &[i128]) -> bool
+    ensures { Decides result (ShareNone numbers.now) }
 {
     let mut divisor = 0;
-    for number in row {
+    for number in numbers {
         divisor = gcd(divisor, size(*number));
         if divisor == 1 {
             return true;
@@ -41,20 +41,28 @@ fn total_within(row: &[i128]) -> Option<u128>
     Some(total)
 }
 
-// The row's total, where it is its own reduced row.
-fn plain_row(row: &[i128]) -> Option<u128>
-    ensures some { IfSome result (IsPlainRow row.now) }
-    ensures none { IfNone result ((total : ℕ) → IsPlainRow row.now total → ⊥) }
+// The total of all rows, where they have one, and there is a row.
+fn common_total(cells: &[i128], states: usize) -> Option<u128>
+    requires { 0 < states }
+    ensures some { IfSome result (HaveTotal cells.now states) }
+    ensures none { IfNone result ((total : ℕ) → HaveTotal cells.now states total → ⊥) }
 {
-    if !share_none(row) {
+    if cells.len() < states {
         return None;
     }
-    total_within(row)
+    let total = total_within(row_at(cells, states, 0))?;
+    for r in 1..cells.len() / states {
+        if total_within(row_at(cells, states, r))? != total {
+            return None;
+        }
+    }
+    Some(total)
 }
 
-/// The common total of a chance table's rows, where its numbers are whole and are the table's weights as they stand: in
-/// each row they share no divisor but 1, and all rows have one total, within the limits. Any other rows have `None`,
-/// though some of them are their own weights. It stops at the first row that has another total or a divisor.
+/// The common total of a chance table's rows, where its numbers are whole and are the table's weights as they stand: all
+/// rows have one total, within the limits, and the numbers of all rows together share no divisor but 1, so that the least
+/// common multiple of the reduced rows' totals is that total. Other rows have other weights or none, and `None` here. It
+/// stops at the first row of another total, and looks for divisors only until 1 is left.
 pub fn plain_total(cells: &[i128], states: usize) -> Option<u128>
     requires states { 0 < states }
     requires whole { states ∣ length cells.now }
@@ -65,14 +73,9 @@ pub fn plain_total(cells: &[i128], states: usize) -> Option<u128>
     ensures table { IfSome result (AreOwnTable cells.now states) }
     ensures faultless { IfSome result (λ _. AreFaultlessAlone cells.now states) }
 {
-    if cells.len() < states {
+    let total = common_total(cells, states)?;
+    if !share_none(cells) {
         return None;
-    }
-    let total = plain_row(row_at(cells, states, 0))?;
-    for r in 1..cells.len() / states {
-        if plain_row(row_at(cells, states, r))? != total {
-            return None;
-        }
     }
     Some(total)
 }
