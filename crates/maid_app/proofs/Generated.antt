@@ -2,16 +2,14 @@
 use Rattle.std.proofs.Common.{◌≡◌, inl, inr, ℕ, List, Option, Some, Ok, Err, refl, subst}
 use Rattle.app_lines.specs.Demo.{demo_text}
 use Rattle.maid_io.specs.Device.{File}
-use Rattle.maid_app.specs.Answers.{Answers, FindsNothing}
-use Rattle.maid_app.specs.Laws.{OneStatus, ClearOrRefused}
-use Rattle.maid_app.specs.Outcome.{Refused, written, refused}
-use Rattle.maid_app.specs.Request.{Request, demo}
-use Rattle.maid_app.specs.Stages.{Stage, text_fault, unknown_agent, relevance_cycle, weight_bound, too_large, too_many_profiles, no_equilibrium, several_owners, update_too_large, rounds_spent, unknown_node, unknown_state, below_decision, rules_given, cycle_given, bound_given, size_given, impossible, unknown_row, no_others, moved_bound, too_many_leaves, bad_line}
+use Rattle.app_forms.specs.Answers.{Answers, FindsNothing}
+use Rattle.app_forms.specs.Outcome.{Refused, written, refused}
+use Rattle.app_forms.specs.Request.{Request, demo}
+use Rattle.maid_app.specs.Steps.{RequestLaws}
 use Rattle.maid_app.specs.Told.{OfRequest, HasNoBytes, HasText, WritesText, Refuses, Says, IsOfReading, IsOneOf}
-use Rattle.maid_app.specs.declared.status.Status.{Status}
-use Rattle.maid_app.specs.declared.status.Status.TheVariants.{Done, Usage, Absent, ReadFault, TextTooLong, TextFault, Cycle, WeightBound, TooLarge, WriteFault, NoMemory, Rejected, UnknownAgent, NoPure, NotOneAgent, RoundsSpent, UnknownNode, UnknownState, BelowDecision, Impossible, UnknownRow, NoOthers}
-use Rattle.maid_app.proofs.Bytes.{status_by, status_of_a_stage}
-use Rattle.maid_app.proofs.Outcomes.{apart, gives_well}
+use Rattle.app_forms.specs.declared.status.Status.{Status}
+use Rattle.app_forms.specs.declared.status.Status.TheVariants.{Done, Usage, Absent, ReadFault, TextTooLong, TextFault, Cycle, WeightBound, TooLarge, WriteFault, NoMemory, Rejected, UnknownAgent, NoPure, NotOneAgent, RoundsSpent, UnknownNode, UnknownState, BelowDecision, Impossible, UnknownRow, NoOthers}
+use Rattle.maid_app.proofs.Ends.{of_bytes, apart}
 
 -- such words lead to no other request
 own : (list : Option (List File)) (k : ℕ) (P : Request → Type 0) → OfRequest list (Some (demo k)) P → P (demo k)
@@ -67,61 +65,36 @@ module _ (list : Option (List File)) (requested : Option Request) (given : ℕ) 
       (has.0, subst (λ b. Answers (demo k) b (Ok (written status has.0))) has.1.is_text has.1.answers)
 
   -- it never ends with a status of reading
-  pub own_not_reading : (s : Status) (t : List ℕ) → Says list requested given s t → IsOfReading s → ⊥
-  own_not_reading s t says = not_reading s (told_why s t says) where
-    stage_not_reading : (s : Stage) → IsOfReading (status_by s) → ⊥
-    stage_not_reading text_fault h = h
-    stage_not_reading (unknown_agent agent) h = h
-    stage_not_reading relevance_cycle h = h
-    stage_not_reading weight_bound h = h
-    stage_not_reading too_large h = h
-    stage_not_reading too_many_profiles h = h
-    stage_not_reading no_equilibrium h = h
-    stage_not_reading several_owners h = h
-    stage_not_reading update_too_large h = h
-    stage_not_reading rounds_spent h = h
-    stage_not_reading (unknown_node node) h = h
-    stage_not_reading (unknown_state node state) h = h
-    stage_not_reading (below_decision node state) h = h
-    stage_not_reading (rules_given node state) h = h
-    stage_not_reading (cycle_given node state) h = h
-    stage_not_reading (bound_given node state) h = h
-    stage_not_reading (size_given node state) h = h
-    stage_not_reading (impossible node state) h = h
-    stage_not_reading (unknown_row node row state) h = h
-    stage_not_reading (no_others node row state) h = h
-    stage_not_reading (moved_bound node row state) h = h
-    stage_not_reading too_many_leaves h = h
-    stage_not_reading (bad_line text) h = h
-
+  pub own_not_reading : RequestLaws → (s : Status) (t : List ℕ) → Says list requested given s t → IsOfReading s → ⊥
+  own_not_reading laws s t says = not_reading s (told_why s t says) where
     not_reading : (s : Status) → Failed k s → IsOfReading s → ⊥
     not_reading s unwritten h = h
     not_reading s memory h = h
-    not_reading s (refused_so _ t is) h = let of = status_of_a_stage (demo k) (demo_text k) (refused s t) is in stage_not_reading of.0 (subst IsOfReading of.1 h)
+    not_reading s (refused_so _ t is) h = (of_bytes s (laws.refused (demo k) (demo_text k) (refused s t) is)).1 h
 
-  pub own_well : (A : List ℕ → Type 0) (status : Status) → WritesText list requested given A status → IsOneOf status Done
-  own_well A status text = let has = told_text A status text in gives_well (demo k) (demo_text k) (written status has.0) has.1
+  pub own_well : RequestLaws → (A : List ℕ → Type 0) (status : Status) → WritesText list requested given A status → IsOneOf status Done
+  own_well laws A status text = let has = told_text A status text in inl (laws.written (demo k) (demo_text k) (written status has.0) has.1)
 
-  pub own_not_written_reading : (A : List ℕ → Type 0) (status : Status) → WritesText list requested given A status → IsOfReading status → ⊥
-  own_not_written_reading A status text h = by (own_well A status text) where
+  pub own_not_written_reading : RequestLaws → (A : List ℕ → Type 0) (status : Status) → WritesText list requested given A status → IsOfReading status → ⊥
+  own_not_written_reading laws A status text h = by (own_well laws A status text) where
     by : IsOneOf status Done → ⊥
     by (inl e) = subst IsOfReading e h
     by (inr e) = subst IsOfReading e h
 
-  pub done_own_refused : OneStatus → (A : List ℕ → Type 0) (status : Status) → WritesText list requested given A status → (refusal : Refused) → Answers (demo k) (demo_text k) (Err refusal) → ⊥
-  done_own_refused one A status text refusal is = let has = told_text A status text in apart one (demo k) (demo_text k) (written status has.0) refusal has.1 is
+  pub done_own_refused : RequestLaws → (A : List ℕ → Type 0) (status : Status) → WritesText list requested given A status → (refusal : Refused) → Answers (demo k) (demo_text k) (Err refusal) → ⊥
+  done_own_refused laws A status text refusal is = let has = told_text A status text in apart laws (demo k) (demo_text k) (written status has.0) refusal has.1 is
 
-  pub own_refused : OneStatus → (s : Status) (t : List ℕ) (A : List ℕ → Type 0) → Says list requested given s t → (s ≡ WriteFault → (status : Status) × WritesText list requested given A status)
+  pub own_refused : RequestLaws → (s : Status) (t : List ℕ) (A : List ℕ → Type 0) → Says list requested given s t → (s ≡ WriteFault → (status : Status) × WritesText list requested given A status)
       → (refusal : Refused) → Answers (demo k) (demo_text k) (Err refusal) → IsOneOf s refusal.status
-  own_refused one s t A says part refusal is = by s (told_why s t says) part where
+  own_refused laws s t A says part refusal is = by s (told_why s t says) part where
     by : (s : Status) → Failed k s → (s ≡ WriteFault → (status : Status) × WritesText list requested given A status) → IsOneOf s refusal.status
-    by s unwritten part = let text = part refl in absurd (done_own_refused one A text.0 text.1 refusal is)
+    by s unwritten part = let text = part refl in absurd (done_own_refused laws A text.0 text.1 refusal is)
     by s memory part = inr refl
-    by s (refused_so _ t h) part = inl (one (demo k) (demo_text k) (Err (refused s t)) (Err refusal) h is)
+    by s (refused_so _ t h) part = inl (laws.one (demo k) (demo_text k) (Err (refused s t)) (Err refusal) h is)
 
-  pub own_done : ClearOrRefused → (s : Status) (t : List ℕ) → Says list requested given s t → (s ≡ WriteFault → ⊥) → FindsNothing (demo k) (demo_text k) → IsOneOf s Done
-  own_done law s t says no_write clear = by s (told_why s t says) no_write where
+  pub own_done : RequestLaws → (s : Status) (t : List ℕ) → Says list requested given s t → (s ≡ WriteFault → ⊥) → FindsNothing (demo k) (demo_text k) → IsOneOf s Done
+  own_done laws s t says no_write clear = by s (told_why s t says) no_write where
     by : (s : Status) → Failed k s → (s ≡ WriteFault → ⊥) → IsOneOf s Done
     by s unwritten no_write = absurd (no_write refl)
     by s memory no_write = inr refl
-    by s (refused_so _ t h) no_write = absurd (law (demo k) (demo_text k) (refused s t) clear h)
+    by s (refused_so _ t h) no_write = absurd (laws.clear (demo k) (demo_text k) (refused s t) clear h)

@@ -1,14 +1,13 @@
 -- What calls tell is handed on: by a `?`, by a line that is told if there is memory for it, and by a whole write.
-use Rattle.std.proofs.Common.{◌≡◌, ◌==◌, ◌≤◌, ◌∙◌, ℕ, arith, false, inl, inr, ◌⊎◌, IfErr, OnOk, OnErr, Result, Ok, Err, sym, ap}
+use Rattle.std.proofs.Common.{◌≡◌, ◌==◌, ◌≤◌, ℕ, arith, false, inl, inr, ◌⊎◌, IfErr, OnOk, OnErr, Result, Ok, Err, ap}
 use Rattle.std.proofs.lemmas.Result.{err_from_is_err_and}
 use Rattle.std.specs.Result.{IsErr, IsErrAnd}
-use Rattle.std.proofs.lemmas.Bool.{false≢true}
+use Rattle.std.proofs.lemmas.Bool.Decides.{nat_tests}
 use Rattle.maid_io.specs.Count.{Rose}
-use Rattle.maid_laws.proofs.Booleans.{eqb_yes}
-use Rattle.maid_app.specs.Status.{code_of}
+use Rattle.app_forms.specs.Status.{code_of}
 use Rattle.maid_app.specs.Told.{IsAfterWriting}
-use Rattle.maid_app.specs.declared.status.Status.{Status}
-use Rattle.maid_app.specs.declared.status.Status.TheVariants.{Done, Usage, Absent, ReadFault, TextTooLong, TextFault, Cycle, WeightBound, TooLarge, WriteFault, NoMemory, Rejected, UnknownAgent, NoPure, NotOneAgent, RoundsSpent, UnknownNode, UnknownState, BelowDecision, Impossible, UnknownRow, NoOthers}
+use Rattle.app_forms.specs.declared.status.Status.{Status}
+use Rattle.app_forms.specs.declared.status.Status.TheVariants.{Done, Usage, Absent, ReadFault, TextTooLong, TextFault, Cycle, WeightBound, TooLarge, WriteFault, NoMemory, Rejected, UnknownAgent, NoPure, NotOneAgent, RoundsSpent, UnknownNode, UnknownState, BelowDecision, Impossible, UnknownRow, NoOthers}
 
 -- the fault that a `?` hands on is as it was
 pub err_handed : {A E : Type 0} (r : Result A E) (fault : E) (P : E → Type 0) → IsErr r × IsErrAnd r (λ y. y ≡ fault) → P fault → IfErr r P
@@ -23,9 +22,13 @@ taken (Err e) all part rises = inr (rises, part)
 pub rose_later : (before mid now : ℕ) → before ≤ mid → Rose mid now → Rose before now
 rose_later before mid now kept rose = omega (arith, kept, rose)
 
+-- numbers that are told apart are not the same
+not_same : (m n : ℕ) → m == n ≡ false → m ≡ n → ⊥
+not_same m n apart e = grind (arith, nat_tests)
+
 -- one status is not another, which has a code of its own
 pub other_status : {So : Type 0} (a b : Status) → code_of a == code_of b ≡ false → a ≡ b → So
-other_status a b apart e = absurd (false≢true (sym apart ∙ eqb_yes (code_of a) (code_of b) (ap code_of e)))
+other_status a b apart e = absurd (not_same (code_of a) (code_of b) apart (ap code_of e))
 
 -- what neither status behind a whole text meets, no such status does
 pub not_after : (P : Status → Type 0) → (P Done → ⊥) → (P Rejected → ⊥) → (status : Status) → IsAfterWriting status → P status → ⊥

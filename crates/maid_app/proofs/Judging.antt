@@ -1,24 +1,21 @@
 -- The second step of a check: where nothing is found in the first file, the words lead to the report.
 use Rattle.std.proofs.Common.{◌≡◌, inr, ℕ, List, Option, Result, Ok, Err, refl, subst}
-use Rattle.first_fault.specs.Outcomes.{refusals as refusals_of}
 use Rattle.maid_io.specs.Device.{File}
 use Rattle.maid_model.specs.Names.{NamesView}
 use Rattle.maid_model.specs.Views.{DiagramView}
-use Rattle.maid_app.specs.Answers.{Answers}
-use Rattle.maid_app.specs.Check.{examining}
-use Rattle.maid_app.specs.Outcome.{Written, Refused, written}
-use Rattle.maid_app.specs.Reading.{IsExamined, Judges, RefusesAs, TellsOf}
-use Rattle.maid_app.specs.Refusal.{status_of, line_of, refused_as}
-use Rattle.maid_app.specs.Request.{check, judge}
-use Rattle.maid_app.specs.Steps.{LeadsToText, LeadsToRefusal}
-use Rattle.maid_app.specs.Tasks.{comes_of}
+use Rattle.app_forms.specs.Answers.{Answers}
+use Rattle.app_forms.specs.Check.{examining}
+use Rattle.app_forms.specs.Outcome.{Written, Refused, written}
+use Rattle.app_forms.specs.Reading.{IsExamined, Judges, TellsOf}
+use Rattle.app_forms.specs.Refusal.{status_of, line_of}
+use Rattle.app_forms.specs.Request.{check, judge}
+use Rattle.maid_app.specs.Steps.{RequestLaws, LeadsToText, LeadsToRefusal, RefusesAs}
+use Rattle.app_forms.specs.Tasks.{comes_of}
 use Rattle.maid_app.specs.Told.{IsFileText, IsUnread, KeepsLimit, LeadsTo, IsOfReading}
-use Rattle.maid_app.specs.declared.output.Output.{Output}
-use Rattle.maid_app.specs.declared.refusal.Refusal.{Refusal}
+use Rattle.app_forms.specs.declared.output.Output.{Output}
+use Rattle.app_forms.specs.declared.refusal.Refusal.{Refusal}
 use Rattle.maid_app.specs.declared.running.TheConstants.{LIMIT, REPORT_LIMIT}
-use Rattle.maid_app.proofs.Checks.{examined}
-use Rattle.maid_app.proofs.Outcomes.{refuses_as}
-use Rattle.maid_app.proofs.Refusals.{found_too}
+use Rattle.maid_app.proofs.Ends.{gives_after, refuses_by}
 use Rattle.maid_app.proofs.Steps.{text_made, bytes_refused, not_reading, file_refused, no_text}
 
 -- what comes of the report's file, with a text of the diagram at hand
@@ -27,13 +24,13 @@ unfolding Answers
 here text report bytes d names outcome e h = h text e.is
 
 -- what comes of the first file, on its bytes
-pub examining_refuses : (file report bytes : List ℕ) (refusal : Refusal) → TellsOf (comes_of examining file bytes) refusal → RefusesAs (Answers (check file report) bytes) (status_of refusal) (line_of refusal)
+pub examining_refuses : RequestLaws → (file report bytes : List ℕ) (refusal : Refusal) → TellsOf (comes_of examining file bytes) refusal → RefusesAs (Answers (check file report) bytes) (status_of refusal) (line_of refusal)
 unfolding Answers
-examining_refuses file report bytes refusal h = refuses_as (check file report) bytes refusal h
+examining_refuses laws file report bytes refusal h = refuses_by laws (check file report) bytes (Answers (check file report) bytes) (λ f k. k) refusal h
 
-module _ (list : Option (List File)) (file report text : List ℕ) (d : DiagramView) (names : NamesView) (before : ℕ) (is : IsFileText list file LIMIT before text) (e : IsExamined text d names) where
+module _ (laws : RequestLaws) (list : Option (List File)) (file report text : List ℕ) (d : DiagramView) (names : NamesView) (before : ℕ) (is : IsFileText list file LIMIT before text) (e : IsExamined text d names) where
   leads : LeadsTo list (check file report) (judge text report)
-  leads = inr (record { file = file; report = report; text = text; asks = refl; judges = refl; there = is.told; fits = is.fits; clear = examined file report text d names e })
+  leads = inr (record { file = file; report = report; text = text; asks = refl; judges = refl; there = is.told; fits = is.fits; clear = laws.answered (check file report) text d names e.is e.can })
 
   module _ (later : Option (List File)) (same : later ≡ list) (given : ℕ) where
     -- its bytes are not had
@@ -45,15 +42,14 @@ module _ (list : Option (List File)) (file report text : List ℕ) (d : DiagramV
 
     module _ (bytes : List ℕ) (read : IsFileText later report REPORT_LIMIT given bytes) where
       refuses : (refusal : Refusal) → TellsOf (Judges d names report bytes) refusal → RefusesAs (Answers (judge text report) bytes) (status_of refusal) (line_of refusal)
-      refuses refusal h =
-          refuses_as (judge text report) bytes refusal
-          (found_too (refusals_of (Judges d names report bytes)) (refusals_of (Answers (judge text report) bytes)) (λ f k. here text report bytes d names (Err f) e k) (refused_as refusal) h)
+      refuses refusal h = refuses_by laws (judge text report) bytes (Judges d names report bytes) (λ f k. here text report bytes d names (Err f) e k) refusal h
 
       -- it is judged
       pub report_judged : (output : Output) → Judges d names report bytes (Ok (written output.status output.text.items)) → LeadsToText list (check file report) given output
       report_judged output h =
-          text_made list (check file report) (judge text report) given leads bytes (subst (λ l. IsFileText l report REPORT_LIMIT given bytes) same read) output
-          (here text report bytes d names (Ok (written output.status output.text.items)) e h)
+          let answers = here text report bytes d names (Ok (written output.status output.text.items)) e h in
+          text_made list (check file report) (judge text report) given leads bytes (subst (λ l. IsFileText l report REPORT_LIMIT given bytes) same read) output answers
+          (gives_after laws (judge text report) bytes (written output.status output.text.items) answers)
 
       -- or it is none
       pub report_refused : (refusal : Refusal) → TellsOf (Judges d names report bytes) refusal → LeadsToRefusal list (check file report) given refusal

@@ -1,13 +1,13 @@
 -- Where the words lead: to the request that they name, or behind the first file of a check to its report.
 use Rattle.std.proofs.Common.{◌≡◌, ◌<◌, ◌≤◌, inl, inr, ◌⊎◌, ℕ, List, length, Option, None, Some, IsSomeAnd, Ok, sym, subst, ap, ◌∙◌, arith}
 use Rattle.maid_io.specs.Device.{File, file_of}
-use Rattle.maid_app.specs.Answers.{Answers, FindsNothing}
-use Rattle.maid_app.specs.Laws.{ClearOrRefused}
-use Rattle.maid_app.specs.Outcome.{Written, refused}
-use Rattle.maid_app.specs.Request.{Request, solve, check, judge, graph, print, trim, pure, update, info, control, evidence, threshold, demo, file_name, IsOfFile}
-use Rattle.maid_app.specs.Tasks.{comes_of}
+use Rattle.app_forms.specs.Answers.{Answers, FindsNothing}
+use Rattle.app_forms.specs.Laws.{IsOfText}
+use Rattle.app_forms.specs.Outcome.{Written, refused}
+use Rattle.app_forms.specs.Request.{Request, solve, check, judge, graph, print, trim, pure, update, info, control, evidence, threshold, demo, file_name, IsOfFile}
+use Rattle.maid_app.specs.Steps.{RequestLaws}
 use Rattle.maid_app.specs.Told.{limit_of, IsFileText, IsTextFor, IsJudging, LeadsTo, OfRequest, IsTooLong, Refuses}
-use Rattle.maid_app.specs.declared.status.Status.{Status}
+use Rattle.app_forms.specs.declared.status.Status.{Status}
 
 -- the text of a request that names a file is the file's
 pub file_text : (list : Option (List File)) (request : Request) (given : ℕ) (bytes : List ℕ) → IsOfFile request → IsTextFor list request given bytes
@@ -80,11 +80,6 @@ of_request files asked request P leads not_passed has = by (meet files asked has
 of_file : (request : Request) (file report : List ℕ) → request ≡ check file report → IsOfFile request
 of_file request file report e = subst IsOfFile (sym e) tt
 
--- nothing is written for the first file of a check
-nothing_given : (file report bytes : List ℕ) (output : Written) → Answers (check file report) bytes (Ok output) → ⊥
-unfolding Answers comes_of
-nothing_given file report bytes output h = h.1
-
 module _ (files : List File) (request : Request) (p : IsPassed files request) where
   -- its bytes are those that the shelf tells
   same_text : (given : ℕ) (bytes : List ℕ) → IsTextFor (Some files) request given bytes → bytes ≡ p.text
@@ -98,9 +93,9 @@ module _ (files : List File) (request : Request) (p : IsPassed files request) wh
   passed_not_too_long given long =
       let more : limit_of request < length p.text = subst (λ found. IsSomeAnd found (λ bytes. limit_of request < length bytes)) p.there long.told in omega (arith, more, p.fits)
 
-  pub passed_not_refused : ClearOrRefused → (given : ℕ) (s : Status) (t : List ℕ) → Refuses (Some files) request given s t → ⊥
-  passed_not_refused law given s t h =
-      law request h.bytes (refused s t) (subst (FindsNothing request) (sym (same_text given h.bytes h.is_text)) p.clear) h.answers
+  pub passed_not_refused : RequestLaws → (given : ℕ) (s : Status) (t : List ℕ) → Refuses (Some files) request given s t → ⊥
+  passed_not_refused laws given s t h =
+      laws.clear request h.bytes (refused s t) (subst (FindsNothing request) (sym (same_text given h.bytes h.is_text)) p.clear) h.answers
 
-  pub passed_gives_nothing : (bytes : List ℕ) (output : Written) → Answers request bytes (Ok output) → ⊥
-  passed_gives_nothing bytes output h = nothing_given p.file p.report bytes output (subst (λ r. Answers r bytes (Ok output)) p.is h)
+  pub passed_gives_nothing : RequestLaws → (bytes : List ℕ) (output : Written) → Answers request bytes (Ok output) → ⊥
+  passed_gives_nothing laws bytes output h = subst (λ r. IsOfText r output.status) p.is (laws.written request bytes output h)

@@ -1,151 +1,17 @@
 -- How the end of a run follows from what it read.
-use Rattle.std.proofs.Common.{◌≡◌, ◌<◌, ◌≤◌, inl, inr, ◌⊎◌, ℕ, List, length, Option, None, Some, IsSomeAnd, IfErr, Result, Ok, Err, refl, sym, subst, ap, ◌∙◌, arith}
-use Rattle.first_fault.specs.Passes.{each}
+use Rattle.std.proofs.Common.{◌≡◌, ◌<◌, ◌≤◌, inl, inr, ◌⊎◌, ℕ, List, length, Option, None, Some, IsSomeAnd, Ok, Err, refl, sym, subst, ap, ◌∙◌, arith}
 use Rattle.maid_io.specs.Device.{File, file_of}
-use Rattle.maid_model.specs.Names.{NamesView}
-use Rattle.maid_model.specs.Views.{DiagramView}
-use Rattle.maid_app.specs.Answers.{Answers, FindsNothing, CanAnswer}
-use Rattle.maid_app.specs.Asking.{CanBeAsked, asking_stages}
-use Rattle.maid_app.specs.Check.{status_after}
-use Rattle.maid_app.specs.Diagrams.{NamedDiagram, IsDiagramOf}
-use Rattle.maid_app.specs.Laws.{OneStatus, ClearOrRefused}
-use Rattle.maid_app.specs.Outcome.{Written, Refused, written, refused}
-use Rattle.maid_app.specs.Reading.{TellsOf, RefusesAs}
-use Rattle.maid_app.specs.Refusal.{status_of, line_of}
-use Rattle.maid_app.specs.Request.{Request, solve, check, judge, graph, print, trim, pure, update, info, control, evidence, threshold, demo, file_name}
-use Rattle.maid_app.specs.Stages.{Stage, text_fault, unknown_agent, relevance_cycle, weight_bound, too_large, too_many_profiles, no_equilibrium, several_owners, update_too_large, rounds_spent, unknown_node, unknown_state, below_decision, rules_given, cycle_given, bound_given, size_given, impossible, unknown_row, no_others, moved_bound, too_many_leaves, bad_line, Finds}
-use Rattle.maid_app.specs.Tasks.{comes_of}
-use Rattle.maid_app.specs.Told.{limit_of, IsTextFor, LeadsTo, IsTooLong, HasNoBytes, HasText, WritesText, Refuses, Says, HasFile, LacksFile, IsAfterWriting, IsOneOf, EndsWell}
-use Rattle.maid_app.specs.declared.refusal.Refusal.{Refusal}
-use Rattle.maid_app.specs.declared.refusal.Refusal.TheVariants as refusals
-use Rattle.maid_app.specs.declared.status.Status.{Status}
-use Rattle.maid_app.specs.declared.status.Status.TheVariants.{Done, Usage, Absent, ReadFault, TextTooLong, TextFault, Cycle, WeightBound, TooLarge, WriteFault, NoMemory, Rejected, UnknownAgent, NoPure, NotOneAgent, RoundsSpent, UnknownNode, UnknownState, BelowDecision, Impossible, UnknownRow, NoOthers}
-use Rattle.tree_checker.specs.declared.verdicts.Verdict.{Verdict}
-use Rattle.tree_checker.specs.declared.verdicts.Verdict.TheVariants as verdicts
-use Rattle.maid_app.proofs.Bytes.{status_by, status_of_a_stage}
+use Rattle.app_forms.specs.Answers.{Answers, FindsNothing}
+use Rattle.app_forms.specs.Outcome.{Written, Refused, written, refused}
+use Rattle.app_forms.specs.Request.{Request, solve, check, judge, graph, print, trim, pure, update, info, control, evidence, threshold, demo, file_name}
+use Rattle.app_forms.specs.declared.status.Status.{Status}
+use Rattle.app_forms.specs.declared.status.Status.TheVariants.{Done, Usage, Absent, ReadFault, TextTooLong, TextFault, Cycle, WeightBound, TooLarge, WriteFault, NoMemory, Rejected, UnknownAgent, NoPure, NotOneAgent, RoundsSpent, UnknownNode, UnknownState, BelowDecision, Impossible, UnknownRow, NoOthers}
+use Rattle.maid_app.specs.Steps.{RequestLaws}
+use Rattle.maid_app.specs.Told.{limit_of, IsTextFor, LeadsTo, IsTooLong, HasNoBytes, HasText, WritesText, Refuses, Says, HasFile, LacksFile, IsOneOf, EndsWell}
+use Rattle.maid_app.proofs.Ends.{apart, gives_well}
 use Rattle.maid_app.proofs.Leading.{IsPassed, file_text, of_request, passed_not_absent, passed_not_too_long, passed_not_refused, passed_gives_nothing}
 
--- what a stage refuses has a status of bytes
-as_of_stage : (Comes : Result Written Refused → Type 0) (s : Stage) (told : List ℕ) → Comes (Err (refused (status_by s) told)) → RefusesAs Comes (status_by s) told
-as_of_stage Comes text_fault told h = (tt, h)
-as_of_stage Comes (unknown_agent agent) told h = (tt, h)
-as_of_stage Comes relevance_cycle told h = (tt, h)
-as_of_stage Comes weight_bound told h = (tt, h)
-as_of_stage Comes too_large told h = (tt, h)
-as_of_stage Comes too_many_profiles told h = (tt, h)
-as_of_stage Comes no_equilibrium told h = (tt, h)
-as_of_stage Comes several_owners told h = (tt, h)
-as_of_stage Comes update_too_large told h = (tt, h)
-as_of_stage Comes rounds_spent told h = (tt, h)
-as_of_stage Comes (unknown_node node) told h = (tt, h)
-as_of_stage Comes (unknown_state node state) told h = (tt, h)
-as_of_stage Comes (below_decision node state) told h = (tt, h)
-as_of_stage Comes (rules_given node state) told h = (tt, h)
-as_of_stage Comes (cycle_given node state) told h = (tt, h)
-as_of_stage Comes (bound_given node state) told h = (tt, h)
-as_of_stage Comes (size_given node state) told h = (tt, h)
-as_of_stage Comes (impossible node state) told h = (tt, h)
-as_of_stage Comes (unknown_row node row state) told h = (tt, h)
-as_of_stage Comes (no_others node row state) told h = (tt, h)
-as_of_stage Comes (moved_bound node row state) told h = (tt, h)
-as_of_stage Comes too_many_leaves told h = (tt, h)
-as_of_stage Comes (bad_line text) told h = (tt, h)
-
-as_refused : (request : Request) (bytes : List ℕ) (status : Status) (told : List ℕ) → Answers request bytes (Err (refused status told)) → RefusesAs (Answers request bytes) status told
-as_refused request bytes status told h =
-    let of = status_of_a_stage request bytes (refused status told) h in
-    subst (λ s. RefusesAs (Answers request bytes) s told) (sym of.1) (as_of_stage (Answers request bytes) of.0 told (subst (λ s. Answers request bytes (Err (refused s told))) of.1 h))
-
--- what the stages find, the refusal's status and line say
-pub refuses_as : (request : Request) (bytes : List ℕ) (refusal : Refusal) → TellsOf (Answers request bytes) refusal → RefusesAs (Answers request bytes) (status_of refusal) (line_of refusal)
-refuses_as request bytes refusals.Usage h = as_refused request bytes (status_of refusals.Usage) (line_of refusals.Usage) h
-refuses_as request bytes (refusals.Told status told) h = as_refused request bytes status told.items h
-refuses_as request bytes refusals.WriteFault h = as_refused request bytes (status_of refusals.WriteFault) (line_of refusals.WriteFault) h
-refuses_as request bytes refusals.NoMemory h = refl
-
-pub refuses_if_err : {A : Type 0} (request : Request) (bytes : List ℕ) (result : Result A Refusal) → IfErr result (TellsOf (Answers request bytes))
-    → IfErr result (λ refusal. RefusesAs (Answers request bytes) (status_of refusal) (line_of refusal))
-refuses_if_err request bytes (Ok printed) h = tt
-refuses_if_err request bytes (Err refusal) h = refuses_as request bytes refusal h
-
--- no stage refuses with a status of what is written
-not_written : (s : Stage) → IsAfterWriting (status_by s) → ⊥
-not_written text_fault h = h
-not_written (unknown_agent agent) h = h
-not_written relevance_cycle h = h
-not_written weight_bound h = h
-not_written too_large h = h
-not_written too_many_profiles h = h
-not_written no_equilibrium h = h
-not_written several_owners h = h
-not_written update_too_large h = h
-not_written rounds_spent h = h
-not_written (unknown_node node) h = h
-not_written (unknown_state node state) h = h
-not_written (below_decision node state) h = h
-not_written (rules_given node state) h = h
-not_written (cycle_given node state) h = h
-not_written (bound_given node state) h = h
-not_written (size_given node state) h = h
-not_written (impossible node state) h = h
-not_written (unknown_row node row state) h = h
-not_written (no_others node row state) h = h
-not_written (moved_bound node row state) h = h
-not_written too_many_leaves h = h
-not_written (bad_line text) h = h
-
-after_done : (status : Status) → status ≡ Done → IsAfterWriting status
-after_done status e = subst IsAfterWriting (sym e) tt
-
-after_verdict : (status : Status) (verdict : Verdict) → status ≡ status_after verdict → IsAfterWriting status
-after_verdict status verdicts.Accepted e = subst IsAfterWriting (sym e) tt
-after_verdict status (verdicts.Rejected line cause) e = subst IsAfterWriting (sym e) tt
-
--- what is written has one
-pub gives_after : (request : Request) (bytes : List ℕ) (output : Written) → Answers request bytes (Ok output) → IsAfterWriting output.status
-unfolding Answers comes_of
-gives_after (solve file) bytes output h = after_done output.status h.1.0
-gives_after (check file report) bytes output h = absurd h.1
-gives_after (judge text report) bytes output h = after_verdict output.status h.1.2.verdict h.1.2.ends
-gives_after (graph file) bytes output h = after_done output.status h.1.0
-gives_after (print file) bytes output h = after_done output.status h.1.0
-gives_after (trim file) bytes output h = after_done output.status h.1.0
-gives_after (evidence file node state) bytes output h = after_done output.status h.1.0
-gives_after (threshold file node row state) bytes output h = after_done output.status h.1.0
-gives_after (pure file) bytes output h = after_done output.status h.1.0
-gives_after (update file) bytes output h = after_done output.status h.1.0
-gives_after (info file agent) bytes output h = after_done output.status h.1.0
-gives_after (control file agent) bytes output h = after_done output.status h.1.0
-gives_after (demo k) bytes output h = after_done output.status h.1.0
-
--- so what is refused is not written
-pub apart : OneStatus → (request : Request) (bytes : List ℕ) (output : Written) (refusal : Refused) → Answers request bytes (Ok output) → Answers request bytes (Err refusal) → ⊥
-apart one request bytes output refusal h k =
-    let of = status_of_a_stage request bytes refusal k in
-    not_written of.0 (subst IsAfterWriting (one request bytes (Ok output) (Err refusal) h k ∙ of.1) (gives_after request bytes output h))
-
-verdict_ends : (status : Status) (verdict : Verdict) → status ≡ status_after verdict → IsOneOf status Done ⊎ (status ≡ Rejected)
-verdict_ends status verdicts.Accepted e = inl (inl e)
-verdict_ends status (verdicts.Rejected line cause) e = inr e
-
--- what is written ends a run well
-pub gives_well : (request : Request) (bytes : List ℕ) (output : Written) → Answers request bytes (Ok output) → EndsWell request output.status
-unfolding Answers comes_of
-gives_well (solve file) bytes output h = inl h.1.0
-gives_well (check file report) bytes output h = tt
-gives_well (judge text report) bytes output h = verdict_ends output.status h.1.2.verdict h.1.2.ends
-gives_well (graph file) bytes output h = inl h.1.0
-gives_well (print file) bytes output h = inl h.1.0
-gives_well (trim file) bytes output h = inl h.1.0
-gives_well (evidence file node state) bytes output h = inl h.1.0
-gives_well (threshold file node row state) bytes output h = inl h.1.0
-gives_well (pure file) bytes output h = inl h.1.0
-gives_well (update file) bytes output h = inl h.1.0
-gives_well (info file agent) bytes output h = inl h.1.0
-gives_well (control file agent) bytes output h = inl h.1.0
-gives_well (demo k) bytes output h = inl h.1.0
-
--- and so does want of memory
+-- want of memory ends a run well
 memory_ends : (request : Request) → EndsWell request NoMemory
 memory_ends (solve file) = inr refl
 memory_ends (check file report) = tt
@@ -177,7 +43,7 @@ data Failed (files : List File) (request : Request) (given : ℕ) : Status → T
 abbrev Wrote : List File → Request → ℕ → Status → Type 0
 Wrote files request given status = (printed : List ℕ) × HasText (Some files) request given status printed
 
-module _ (law : ClearOrRefused) (files : List File) (asked request : Request) (leads : LeadsTo (Some files) asked request) (given : ℕ) where
+module _ (laws : RequestLaws) (files : List File) (asked request : Request) (leads : LeadsTo (Some files) asked request) (given : ℕ) where
   here_or_passed : {P Q : Type 0} → (P → Q) → P ⊎ IsPassed files request → Q ⊎ IsPassed files request
   here_or_passed f (inl h) = inl (f h)
   here_or_passed f (inr p) = inr p
@@ -185,7 +51,7 @@ module _ (law : ClearOrRefused) (files : List File) (asked request : Request) (l
   refused_here : (s : Status) (t : List ℕ) → (own : Request) × LeadsTo (Some files) asked own × Refuses (Some files) own given s t → Failed files request given s ⊎ IsPassed files request
   refused_here s t h =
       here_or_passed (refused_so s t)
-      (of_request files asked request (λ own. Refuses (Some files) own given s t) leads (λ own p k. passed_not_refused files own p law given s t k) h)
+      (of_request files asked request (λ own. Refuses (Some files) own given s t) leads (λ own p k. passed_not_refused files own p laws given s t k) h)
 
   -- what the run says, of the request to which the words lead
   why : (s : Status) (t : List ℕ) → Says (Some files) (Some asked) given s t → Failed files request given s ⊎ IsPassed files request
@@ -218,19 +84,19 @@ module _ (law : ClearOrRefused) (files : List File) (asked request : Request) (l
   wrote : (A : List ℕ → Type 0) (status : Status) → WritesText (Some files) (Some asked) given A status → Wrote files request given status ⊎ IsPassed files request
   wrote A status h =
       here_or_passed (λ k. (k.0, k.1))
-      (of_request files asked request (λ own. (printed : List ℕ) × HasText (Some files) own given status printed × A printed) leads (λ own p k. passed_gives_nothing files own p k.1.bytes (written status k.0) k.1.answers) h)
+      (of_request files asked request (λ own. (printed : List ℕ) × HasText (Some files) own given status printed × A printed) leads (λ own p k. passed_gives_nothing files own p laws k.1.bytes (written status k.0) k.1.answers) h)
 
 -- A run over a shelf that tells its list.
-module _ (law : ClearOrRefused) (list : Option (List File)) (requested : Option Request) (given : ℕ) where
+module _ (laws : RequestLaws) (list : Option (List File)) (requested : Option Request) (given : ℕ) where
   module _ (asked request : Request) (files : List File) (asks : requested ≡ Some asked) (leads : LeadsTo list asked request) (told : list ≡ Some files) where
     told_leads : LeadsTo (Some files) asked request
     told_leads = subst (λ l. LeadsTo l asked request) told leads
 
     told_why : (s : Status) (t : List ℕ) → Says list requested given s t → Failed files request given s ⊎ IsPassed files request
-    told_why s t says = why law files asked request told_leads given s t (subst (λ l. Says l (Some asked) given s t) told (subst (λ r. Says list r given s t) asks says))
+    told_why s t says = why laws files asked request told_leads given s t (subst (λ l. Says l (Some asked) given s t) told (subst (λ r. Says list r given s t) asks says))
 
     told_text : (A : List ℕ → Type 0) (status : Status) → WritesText list requested given A status → Wrote files request given status ⊎ IsPassed files request
-    told_text A status h = wrote law files asked request told_leads given A status (subst (λ l. WritesText l (Some asked) given A status) told (subst (λ r. WritesText list r given A status) asks h))
+    told_text A status h = wrote laws files asked request told_leads given A status (subst (λ l. WritesText l (Some asked) given A status) told (subst (λ r. WritesText list r given A status) asks h))
 
   -- A file that the shelf lacks.
   module _ (lacks : LacksFile list requested) where
@@ -317,111 +183,46 @@ module _ (law : ClearOrRefused) (list : Option (List File)) (requested : Option 
         by s (inl memory) passed of no_read no_write = memory_too
         by s (inl (refused_so _ t h)) passed of no_read no_write = of t (subst (λ b. Answers request b (Err (refused s t))) (same h.bytes h.is_text) h.answers)
 
-      pub only_refused : OneStatus → (s : Status) (t : List ℕ) (A : List ℕ → Type 0) → Says list requested given s t → (s ≡ ReadFault → ⊥)
+      pub only_refused : (s : Status) (t : List ℕ) (A : List ℕ → Type 0) → Says list requested given s t → (s ≡ ReadFault → ⊥)
           → (s ≡ WriteFault → (status : Status) × WritesText list requested given A status) → (refusal : Refused) → Answers request bytes (Err refusal) → IsOneOf s refusal.status
-      only_refused one s t A says no_read part refusal is =
-          by_bytes (λ s. IsOneOf s refusal.status) s t says passed (λ t h. inl (one request bytes (Err (refused s t)) (Err refusal) h is)) (inr refl) no_read (λ e. absurd (unwritten_not (part e))) where
+      only_refused s t A says no_read part refusal is =
+          by_bytes (λ s. IsOneOf s refusal.status) s t says passed (λ t h. inl (laws.one request bytes (Err (refused s t)) (Err refusal) h is)) (inr refl) no_read (λ e. absurd (unwritten_not (part e))) where
             passed : IsPassed has.files request → IsOneOf s refusal.status
-            passed p = absurd (law request bytes refusal (subst (FindsNothing request) (passed_same p) p.clear) is)
+            passed p = absurd (laws.clear request bytes refusal (subst (FindsNothing request) (passed_same p) p.clear) is)
 
             by_text : (status : Status) → Wrote has.files request given status ⊎ IsPassed has.files request → ⊥
-            by_text status (inl text) = apart one request bytes (written status text.0) refusal (at_bytes status text) is
-            by_text status (inr p) = law request bytes refusal (subst (FindsNothing request) (passed_same p) p.clear) is
+            by_text status (inl text) = apart laws request bytes (written status text.0) refusal (at_bytes status text) is
+            by_text status (inr p) = laws.clear request bytes refusal (subst (FindsNothing request) (passed_same p) p.clear) is
 
             unwritten_not : (status : Status) × WritesText list requested given A status → ⊥
             unwritten_not text = by_text text.0 (text_here A text.0 text.1)
 
       pub only_done : (s : Status) (t : List ℕ) → Says list requested given s t → (s ≡ ReadFault → ⊥) → (s ≡ WriteFault → ⊥) → FindsNothing request bytes → EndsWell request s
       only_done s t says no_read no_write clear =
-          by_bytes (EndsWell request) s t says (passed_ends has.files request s) (λ t h. absurd (law request bytes (refused s t) clear h)) (memory_ends request) no_read (λ e. absurd (no_write e))
+          by_bytes (EndsWell request) s t says (passed_ends has.files request s) (λ t h. absurd (laws.clear request bytes (refused s t) clear h)) (memory_ends request) no_read (λ e. absurd (no_write e))
 
-      pub only_written : OneStatus → (s : Status) (t : List ℕ) → Says list requested given s t → (s ≡ ReadFault → ⊥) → (s ≡ WriteFault → ⊥)
+      pub only_written : (s : Status) (t : List ℕ) → Says list requested given s t → (s ≡ ReadFault → ⊥) → (s ≡ WriteFault → ⊥)
           → (output : Written) → Answers request bytes (Ok output) → IsOneOf s output.status
-      only_written one s t says no_read no_write output is =
-          by_bytes (λ s. IsOneOf s output.status) s t says (λ p. absurd (passed_gives_nothing has.files request p bytes output is))
-          (λ t h. absurd (apart one request bytes output (refused s t) is h)) (inr refl) no_read (λ e. absurd (no_write e))
+      only_written s t says no_read no_write output is =
+          by_bytes (λ s. IsOneOf s output.status) s t says (λ p. absurd (passed_gives_nothing has.files request p laws bytes output is))
+          (λ t h. absurd (apart laws request bytes output (refused s t) is h)) (inr refl) no_read (λ e. absurd (no_write e))
 
     -- A run that ended well.
     module _ (A : List ℕ → Type 0) (status : Status) (h : WritesText list requested given A status) where
-      pub done_refused : OneStatus → (refusal : Refused) → Answers request bytes (Err refusal) → ⊥
-      done_refused one refusal is = by (text_here A status h) where
+      pub done_refused : (refusal : Refused) → Answers request bytes (Err refusal) → ⊥
+      done_refused refusal is = by (text_here A status h) where
         by : Wrote has.files request given status ⊎ IsPassed has.files request → ⊥
-        by (inl text) = apart one request bytes (written status text.0) refusal (at_bytes status text) is
-        by (inr p) = law request bytes refusal (subst (FindsNothing request) (passed_same p) p.clear) is
+        by (inl text) = apart laws request bytes (written status text.0) refusal (at_bytes status text) is
+        by (inr p) = laws.clear request bytes refusal (subst (FindsNothing request) (passed_same p) p.clear) is
 
       pub done_well : EndsWell request status
       done_well = by (text_here A status h) where
         by : Wrote has.files request given status ⊎ IsPassed has.files request → EndsWell request status
-        by (inl text) = gives_well request bytes (written status text.0) (at_bytes status text)
+        by (inl text) = gives_well laws request bytes (written status text.0) (at_bytes status text)
         by (inr p) = passed_ends has.files request status p
 
-      pub done_written : OneStatus → (output : Written) → Answers request bytes (Ok output) → IsOneOf status output.status
-      done_written one output is = by (text_here A status h) where
+      pub done_written : (output : Written) → Answers request bytes (Ok output) → IsOneOf status output.status
+      done_written output is = by (text_here A status h) where
         by : Wrote has.files request given status ⊎ IsPassed has.files request → IsOneOf status output.status
-        by (inl text) = inl (one request bytes (Ok (written status text.0)) (Ok output) (at_bytes status text) is)
-        by (inr p) = absurd (passed_gives_nothing has.files request p bytes output is)
-
--- nor where an agent is asked about that a node has
-asked_clear : (agent bytes : List ℕ) (d : DiagramView) (names : NamesView) (name : List ℕ) → IsDiagramOf bytes d names → CanBeAsked agent d names → each (λ s. Finds s (name, bytes)) (asking_stages agent) None
-asked_clear agent bytes d names name is can =
-    let x : NamedDiagram = record { d = d; names = names } in
-    let solvable = can.solvable in ((x, is), ((x, is, can.is_agent), ((x, is, solvable.order), ((x, is, solvable.bound), ((x, is, solvable.small), tt)))))
-
--- where the bytes stand for a diagram that can be answered, no stage finds anything
-pub nothing_found : (request : Request) (bytes : List ℕ) (d : DiagramView) (names : NamesView) → IsDiagramOf bytes d names → CanAnswer request d names → FindsNothing request bytes
-nothing_found (solve name) bytes d names is can =
-    let x : NamedDiagram = record { d = d; names = names } in ((x, is), ((x, is, can.order), ((x, is, can.bound), ((x, is, can.small), tt))))
-nothing_found (check name report) bytes d names is can =
-    let x : NamedDiagram = record { d = d; names = names } in ((x, is), ((x, is, can.bound), ((x, is, can.few), tt)))
-nothing_found (judge text report) bytes d names is can = absurd can
-nothing_found (graph name) bytes d names is can = ((record { d = d; names = names }, is), tt)
-nothing_found (print name) bytes d names is can = ((record { d = d; names = names }, is), tt)
-nothing_found (trim name) bytes d names is can = ((record { d = d; names = names }, is), tt)
-nothing_found (pure name) bytes d names is can =
-    let x : NamedDiagram = record { d = d; names = names } in ((x, is), ((x, is, can.bound), ((x, is, can.small), ((x, is, can.some), tt))))
-nothing_found (update name) bytes d names is can =
-    let x : NamedDiagram = record { d = d; names = names } in ((x, is), ((x, is, can.one_owner), ((x, is, can.bound), ((x, is, can.small), ((x, is, can.settles), tt)))))
-nothing_found (info name agent) bytes d names is can = asked_clear agent bytes d names name is can
-nothing_found (control name agent) bytes d names is can = asked_clear agent bytes d names name is can
-nothing_found (evidence name node state) bytes d names is can =
-    let x : NamedDiagram = record { d = d; names = names } in
-    let at = can.is_place in (
-      (x, is),
-      (
-        (x, is, (can.place.node, at.node)),
-        (
-          (x, is, (can.place, at)),
-          (
-            (x, is, (can.place, at, can.not_below)),
-            (
-              (x, is, (can.place, at, can.rules)),
-              (
-                (x, is, (can.place, at, can.order)),
-                ((x, is, (can.place, at, can.bounds)), ((x, is, (can.place, at, can.small)), ((x, is, (can.place, at, can.possible)), tt))),
-              ),
-            ),
-          ),
-        ),
-      ),
-    )
-nothing_found (threshold name node row state) bytes d names is can =
-    let x : NamedDiagram = record { d = d; names = names } in
-    let at = can.is_place in
-    let solvable = can.solvable in (
-      (x, is),
-      (
-        (x, is, (can.place.node, at.node)),
-        (
-          (x, is, (can.place, at)),
-          (
-            (x, is, (can.place, at, can.has_row)),
-            (
-              (x, is, (can.place, at, can.others)),
-              ((x, is, solvable.order), ((x, is, solvable.bound), ((x, is, solvable.small), ((x, is, (can.place, at, can.bound)), tt)))),
-            ),
-          ),
-        ),
-      ),
-    )
-nothing_found (demo k) bytes d names is can =
-    let x : NamedDiagram = record { d = d; names = names } in ((x, is), ((x, is, can.order), ((x, is, can.bound), ((x, is, can.small), tt))))
+        by (inl text) = inl (laws.one request bytes (Ok (written status text.0)) (Ok output) (at_bytes status text) is)
+        by (inr p) = absurd (passed_gives_nothing has.files request p laws bytes output is)

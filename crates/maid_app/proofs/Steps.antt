@@ -1,19 +1,19 @@
 -- The steps of a run: what they come to is what the words lead to.
-use Rattle.std.proofs.Common.{◌≡◌, ℕ, List, Option, Some, Ok, Err, sym, subst, arith}
+use Rattle.std.proofs.Common.{◌≡◌, inl, inr, ℕ, List, Option, Some, Ok, Err, sym, subst, arith}
 use Rattle.maid_io.specs.Device.{File}
-use Rattle.maid_app.specs.Answers.{Answers}
-use Rattle.maid_app.specs.Outcome.{written, refused}
-use Rattle.maid_app.specs.Reading.{IsOfOutput, RefusesAs}
-use Rattle.maid_app.specs.Refusal.{status_of, line_of}
-use Rattle.maid_app.specs.Request.{Request, file_name, IsOfFile}
-use Rattle.maid_app.specs.Steps.{HasNoText, LeadsToText, LeadsToRefusal}
-use Rattle.maid_app.specs.Told.{limit_of, IsFileText, IsTextFor, IsUnread, KeepsLimit, KeepsFileLimits, LeadsTo, OfRequest, Refuses, Says, WritesText, IsOfReading}
-use Rattle.maid_app.specs.declared.output.Output.{Output}
-use Rattle.maid_app.specs.declared.refusal.Refusal.{Refusal}
-use Rattle.maid_app.specs.declared.status.Status.{Status}
-use Rattle.maid_app.specs.declared.status.Status.TheVariants.{Done, Usage, Absent, ReadFault, TextTooLong, TextFault, Cycle, WeightBound, TooLarge, WriteFault, NoMemory, Rejected, UnknownAgent, NoPure, NotOneAgent, RoundsSpent, UnknownNode, UnknownState, BelowDecision, Impossible, UnknownRow, NoOthers}
+use Rattle.app_forms.specs.Answers.{Answers}
+use Rattle.app_forms.specs.Outcome.{written, refused}
+use Rattle.app_forms.specs.Laws.{IsOfBytes}
+use Rattle.app_forms.specs.Refusal.{status_of, line_of}
+use Rattle.app_forms.specs.Request.{Request, file_name, IsOfFile}
+use Rattle.maid_app.specs.Steps.{HasNoText, IsOfOutput, LeadsToText, LeadsToRefusal, RefusesAs}
+use Rattle.maid_app.specs.Told.{limit_of, IsFileText, IsTextFor, IsUnread, KeepsLimit, KeepsFileLimits, LeadsTo, OfRequest, Refuses, Says, WritesText, IsAfterWriting, IsOfReading}
+use Rattle.app_forms.specs.declared.output.Output.{Output}
+use Rattle.app_forms.specs.declared.refusal.Refusal.{Refusal}
+use Rattle.app_forms.specs.declared.status.Status.{Status}
+use Rattle.app_forms.specs.declared.status.Status.TheVariants.{Done, Usage, Absent, ReadFault, TextTooLong, TextFault, Cycle, WeightBound, TooLarge, WriteFault, NoMemory, Rejected, UnknownAgent, NoPure, NotOneAgent, RoundsSpent, UnknownNode, UnknownState, BelowDecision, Impossible, UnknownRow, NoOthers}
+use Rattle.maid_app.proofs.Ends.{of_bytes}
 use Rattle.maid_app.proofs.Leading.{file_text}
-use Rattle.maid_app.proofs.Outcomes.{gives_after}
 
 -- a file whose bytes were read keeps its limit, whatever the run ends with
 kept : (list : Option (List File)) (name : List ℕ) (limit given : ℕ) (bytes : List ℕ) (status : Status) → IsFileText list name limit given bytes → (status ≡ Absent → ⊥) → KeepsLimit limit status given
@@ -29,74 +29,58 @@ module _ (list : Option (List File)) (asked own : Request) (given : ℕ) (leads 
     kept_all status there = (own, leads, λ of. kept list (file_name own) (limit_of own) given bytes status (file_text list own given bytes of is) there)
 
     -- what is written for the request's bytes
-    pub text_made : (output : Output) → Answers own bytes (Ok (written output.status output.text.items)) → LeadsToText list asked given output
-    text_made output answers = record {
+    pub text_made : (output : Output) → Answers own bytes (Ok (written output.status output.text.items)) → IsAfterWriting output.status → LeadsToText list asked given output
+    text_made output answers after = record {
       request = own;
       leads = leads;
       text = record { bytes = bytes; is_text = is; answers = answers };
-      after = gives_after own bytes (written output.status output.text.items) answers;
+      after = after;
       bounded = kept_all;
     }
 
     refuses : (status : Status) (told : List ℕ) → Answers own bytes (Err (refused status told)) → OfRequest list (Some asked) (λ request. Refuses list request given status told)
     refuses status told h = (own, leads, record { bytes = bytes; is_text = is; answers = h })
 
-    says_bytes : (status : Status) (told : List ℕ) → RefusesAs (Answers own bytes) status told → Says list (Some asked) given status told
-    says_bytes Done told h = absurd h.0
-    says_bytes Usage told h = absurd h.0
-    says_bytes Absent told h = absurd h.0
-    says_bytes ReadFault told h = absurd h.0
-    says_bytes TextTooLong told h = absurd h.0
-    says_bytes WriteFault told h = absurd h.0
-    says_bytes Rejected told h = absurd h.0
-    says_bytes NoMemory told h = h
-    says_bytes TextFault told h = refuses TextFault told h.1
-    says_bytes Cycle told h = refuses Cycle told h.1
-    says_bytes WeightBound told h = refuses WeightBound told h.1
-    says_bytes TooLarge told h = refuses TooLarge told h.1
-    says_bytes UnknownAgent told h = refuses UnknownAgent told h.1
-    says_bytes NoPure told h = refuses NoPure told h.1
-    says_bytes NotOneAgent told h = refuses NotOneAgent told h.1
-    says_bytes RoundsSpent told h = refuses RoundsSpent told h.1
-    says_bytes UnknownNode told h = refuses UnknownNode told h.1
-    says_bytes UnknownState told h = refuses UnknownState told h.1
-    says_bytes BelowDecision told h = refuses BelowDecision told h.1
-    says_bytes Impossible told h = refuses Impossible told h.1
-    says_bytes UnknownRow told h = refuses UnknownRow told h.1
-    says_bytes NoOthers told h = refuses NoOthers told h.1
+    refused_so : (status : Status) (told : List ℕ) → IsOfBytes status → Answers own bytes (Err (refused status told)) → Says list (Some asked) given status told
+    refused_so Done told of h = absurd of
+    refused_so Usage told of h = absurd of
+    refused_so Absent told of h = absurd of
+    refused_so ReadFault told of h = absurd of
+    refused_so TextTooLong told of h = absurd of
+    refused_so WriteFault told of h = absurd of
+    refused_so NoMemory told of h = absurd of
+    refused_so Rejected told of h = absurd of
+    refused_so TextFault told of h = refuses TextFault told h
+    refused_so Cycle told of h = refuses Cycle told h
+    refused_so WeightBound told of h = refuses WeightBound told h
+    refused_so TooLarge told of h = refuses TooLarge told h
+    refused_so UnknownAgent told of h = refuses UnknownAgent told h
+    refused_so NoPure told of h = refuses NoPure told h
+    refused_so NotOneAgent told of h = refuses NotOneAgent told h
+    refused_so RoundsSpent told of h = refuses RoundsSpent told h
+    refused_so UnknownNode told of h = refuses UnknownNode told h
+    refused_so UnknownState told of h = refuses UnknownState told h
+    refused_so BelowDecision told of h = refuses BelowDecision told h
+    refused_so Impossible told of h = refuses Impossible told h
+    refused_so UnknownRow told of h = refuses UnknownRow told h
+    refused_so NoOthers told of h = refuses NoOthers told h
 
-    of_bytes : (status : Status) (told : List ℕ) → RefusesAs (Answers own bytes) status told → IsOfOutput status × (IsOfReading status → ⊥)
-    of_bytes Done told h = absurd h.0
-    of_bytes Usage told h = absurd h.0
-    of_bytes Absent told h = absurd h.0
-    of_bytes ReadFault told h = absurd h.0
-    of_bytes TextTooLong told h = absurd h.0
-    of_bytes WriteFault told h = absurd h.0
-    of_bytes Rejected told h = absurd h.0
-    of_bytes NoMemory told h = (tt, λ r. r)
-    of_bytes TextFault told h = (tt, λ r. r)
-    of_bytes Cycle told h = (tt, λ r. r)
-    of_bytes WeightBound told h = (tt, λ r. r)
-    of_bytes TooLarge told h = (tt, λ r. r)
-    of_bytes UnknownAgent told h = (tt, λ r. r)
-    of_bytes NoPure told h = (tt, λ r. r)
-    of_bytes NotOneAgent told h = (tt, λ r. r)
-    of_bytes RoundsSpent told h = (tt, λ r. r)
-    of_bytes UnknownNode told h = (tt, λ r. r)
-    of_bytes UnknownState told h = (tt, λ r. r)
-    of_bytes BelowDecision told h = (tt, λ r. r)
-    of_bytes Impossible told h = (tt, λ r. r)
-    of_bytes UnknownRow told h = (tt, λ r. r)
-    of_bytes NoOthers told h = (tt, λ r. r)
+    says_bytes : (status : Status) (told : List ℕ) → RefusesAs (Answers own bytes) status told → Says list (Some asked) given status told
+    says_bytes status told (inl h) = subst (λ s. Says list (Some asked) given s told) (sym h.0) h.1
+    says_bytes status told (inr h) = refused_so status told h.0 h.1
+
+    not_read : (status : Status) (told : List ℕ) → RefusesAs (Answers own bytes) status told → IsOfOutput status × (IsOfReading status → ⊥)
+    not_read status told (inl h) = subst (λ s. IsOfOutput s × (IsOfReading s → ⊥)) (sym h.0) (tt, λ reading. reading)
+    not_read status told (inr h) = of_bytes status h.0
 
     -- and never with a status of reading
     pub not_reading : (refusal : Refusal) → RefusesAs (Answers own bytes) (status_of refusal) (line_of refusal) → IsOfReading (status_of refusal) → ⊥
-    not_reading refusal h = (of_bytes (status_of refusal) (line_of refusal) h).1
+    not_reading refusal h = (not_read (status_of refusal) (line_of refusal) h).1
 
     -- what refuses the request's bytes
     pub bytes_refused : (refusal : Refusal) → RefusesAs (Answers own bytes) (status_of refusal) (line_of refusal) → LeadsToRefusal list asked given refusal
     bytes_refused refusal h =
-        let of = of_bytes (status_of refusal) (line_of refusal) h in
+        let of = not_read (status_of refusal) (line_of refusal) h in
         record { says = says_bytes (status_of refusal) (line_of refusal) h; before = of.0; bounded = kept_all (status_of refusal) (λ e. of.1 (subst IsOfReading (sym e) tt)) }
 
   says_unread : (status : Status) (told : List ℕ) → HasNoText list own given status told → Says list (Some asked) given status told

@@ -1,20 +1,28 @@
 -- What the steps of a run come to before anything is written. Only contracts of private functions cite this.
-use Rattle.std.specs.Prelude.{◌≡◌, ◌≢◌, ◌↔◌, ℕ, List, Option, None, Some, String, IfOk, IfErr, Result}
+use Rattle.std.specs.Prelude.{◌≡◌, ◌≢◌, ◌↔◌, ◌⊎◌, ℕ, List, Option, None, Some, String, IfOk, IfErr, Result, Err}
 use Rattle.std.specs.Global.{Vec}
 use Rattle.maid_io.specs.Device.{File}
 use Rattle.maid_io.specs.declared.devices.Shelf.{Ghosts as ShelfGhosts}
 use Rattle.maid_io.specs.declared.devices.Sink.{Ghosts as SinkGhosts}
-use Rattle.maid_app.specs.Lines.{no_memory_line}
-use Rattle.maid_app.specs.Reading.{IsOfOutput, RefusesAs}
-use Rattle.maid_app.specs.Refusal.{status_of, line_of}
-use Rattle.maid_app.specs.Request.{Request, IsOfFile, requested}
+use Rattle.app_forms.specs.Lines.{no_memory_line}
+use Rattle.app_forms.specs.Laws.{OneStatus, ClearOrRefused, RefusedAsBytes, WrittenAsText, ClearIfAnswered, IsOfBytes}
+use Rattle.app_forms.specs.Refusal.{status_of, line_of}
+use Rattle.app_forms.specs.Request.{Request, IsOfFile, requested}
 use Rattle.maid_app.specs.Told.{AppendsWhole, KeepsFileLimits, KeepsLimitsOf, HasNoBytes, HasText, IsAfterWriting, IsFileText, IsTextFor, LeadsTo, RoseIn, Says, IsUnread, WritesPart, KeepsLimit, limit_of}
-use Rattle.maid_app.specs.declared.output.Output.{Output}
-use Rattle.maid_app.specs.declared.refusal.Refusal.{Refusal}
-use Rattle.maid_app.specs.declared.status.Status.{Status}
-use Rattle.maid_app.specs.declared.status.Status.TheVariants.{Absent, NoMemory, Usage}
-use Rattle.maid_app.specs.Outcome.{Written, Refused}
+use Rattle.app_forms.specs.declared.output.Output.{Output}
+use Rattle.app_forms.specs.declared.refusal.Refusal.{Refusal}
+use Rattle.app_forms.specs.declared.status.Status.{Status}
+use Rattle.app_forms.specs.declared.status.Status.TheVariants.{Done, Usage, Absent, WriteFault, NoMemory, Rejected}
+use Rattle.app_forms.specs.Outcome.{Written, Refused, refused}
 use Rattle.first_fault.specs.Outcomes.{Outcomes}
+
+-- the laws of what comes of a request's bytes
+pub record RequestLaws : Type 0 where
+  pub one : OneStatus
+  pub clear : ClearOrRefused
+  pub refused : RefusedAsBytes
+  pub written : WrittenAsText
+  pub answered : ClearIfAnswered
 
 -- why a request's bytes were not had: its file's were not, or memory ran out
 abbrev pub HasNoText : Option (List File) → Request → ℕ → Status → List ℕ → Type 0
@@ -31,6 +39,19 @@ pub record LeadsToText
   pub after : IsAfterWriting output.status
   pub bounded :
       (status : Status) → (status ≡ Absent → ⊥) → KeepsFileLimits list (Some asked) status given
+
+-- a status with which a run is refused before its output is made
+abbrev pub IsOfOutput : Status → Type 0
+IsOfOutput Done = ⊥
+IsOfOutput Usage = ⊥
+IsOfOutput WriteFault = ⊥
+IsOfOutput Rejected = ⊥
+IsOfOutput status = Unit {0}
+
+-- memory ran out, or the status is of the bytes, and it and the line come of them
+abbrev pub RefusesAs : Outcomes Written Refused → Status → List ℕ → Type 0
+RefusesAs Comes status told = ((status ≡ NoMemory) × (told ≡ no_memory_line))
+    ⊎ (IsOfBytes status × Comes (Err (refused status told)))
 
 -- the refusal says why there is no such text, and the files keep their limits
 pub record LeadsToRefusal

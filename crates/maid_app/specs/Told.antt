@@ -8,13 +8,13 @@ use Rattle.maid_io.specs.declared.devices.Shelf.{Ghosts as ShelfGhosts}
 use Rattle.maid_io.specs.declared.devices.Sink.{Ghosts as SinkGhosts}
 use Rattle.maid_io.specs.Whole.{AppendsPart}
 use Rattle.maid_app.specs.declared.running.TheConstants.{LIMIT, REPORT_LIMIT}
-use Rattle.maid_app.specs.Answers.{Answers, FindsNothing, CanAnswer}
-use Rattle.maid_app.specs.Lines.{usage_line, absent_line, read_fault_line, too_long_line, write_fault_line, no_memory_line}
-use Rattle.maid_app.specs.Outcome.{written, refused, Written, Refused}
-use Rattle.maid_app.specs.Request.{Request, check, judge, demo, file_name, requested, IsOfFile}
-use Rattle.maid_app.specs.declared.status.Status.{Status}
-use Rattle.maid_app.specs.declared.status.Status.TheVariants.{Done, Usage, Absent, ReadFault, TextTooLong, WriteFault, NoMemory, Rejected}
-use Rattle.maid_app.specs.Diagrams.{IsDiagramOf}
+use Rattle.app_forms.specs.Answers.{Answers, FindsNothing, CanAnswer}
+use Rattle.app_forms.specs.Lines.{usage_line, absent_line, read_fault_line, too_long_line, write_fault_line, no_memory_line}
+use Rattle.app_forms.specs.Outcome.{written, refused, Written, Refused}
+use Rattle.app_forms.specs.Request.{Request, check, judge, demo, file_name, requested, IsOfFile}
+use Rattle.app_forms.specs.declared.status.Status.{Status}
+use Rattle.app_forms.specs.declared.status.Status.TheVariants.{Done, Usage, Absent, ReadFault, TextTooLong, WriteFault, NoMemory, Rejected}
+use Rattle.app_forms.specs.Diagrams.{IsDiagramOf}
 use Rattle.maid_model.specs.Names.{NamesView}
 use Rattle.maid_model.specs.Views.{DiagramView}
 

@@ -2,21 +2,12 @@
 //!
 //! [`run`] takes the words of a command line, reads the files that they name, and writes one text.
 //! Its contract is the program's: which status it ends with and when, and what `out` and `err`
-//! took. The way is the same for each form of words: the words are of a [`forms::Form`], a pure
+//! took. The way is the same for each form of words: the words are of an [`app_forms::Form`], a pure
 //! function makes the form's text from the file's bytes or refuses, and only then `out` is
 //! written. A refusal knows its status and its line for `err`.
 #![tactic(auto)]
 
-mod fault_words;
-mod forms;
-mod laws;
-pub mod lines;
-mod output;
-mod reading;
-mod refusal;
 mod running;
-mod status;
 
-pub use laws::a_text_has_a_diagram_or_a_fault;
+pub use app_forms::{Status, a_text_has_a_diagram_or_a_fault, lines};
 pub use running::run;
-pub use status::Status;

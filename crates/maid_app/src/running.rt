@@ -1,20 +1,19 @@
 //! The shell: words, devices, the order of refusals, and one line to `err`.
 
 ghost use Rattle.std.specs.Prelude.{◌≡◌, ◌≢◌, ◌++◌, ◌≤◌, ◌↔◌, ℕ, None, IfOk, IfErr, OnOk};
-ghost use Rattle.maid_app.specs.Request.{check, demo, requested};
-ghost use Rattle.maid_app.specs.Form.{request_by, text_request};
-ghost use Rattle.maid_app.specs.Answers.{Answers};
-ghost use Rattle.maid_app.specs.Reading.{TellsLine, Finishes};
-ghost use Rattle.maid_app.specs.Refusal.{status_of};
+ghost use Rattle.app_forms.specs.Request.{check, demo, requested};
+ghost use Rattle.app_forms.specs.Form.{request_by, text_request};
+ghost use Rattle.app_forms.specs.Answers.{Answers};
+ghost use Rattle.app_forms.specs.Reading.{TellsLine, Finishes};
+ghost use Rattle.app_forms.specs.Refusal.{status_of};
 ghost use Rattle.maid_model.specs.Reports.{line};
-ghost use Rattle.maid_app.specs.Steps.{IsCounted, RefusesBytes, RefusesFile, RefusesWords, ServesWhole, StopsInText, GivesBytes, GivesFileText, RefusesWithinLimit, RefusesWithinLimits, IsUsageFor, KeepsFileLimit, LacksBytes, LacksText, MakesText, UnlessStatus, WhereStatus};
+ghost use Rattle.maid_app.specs.Steps.{RequestLaws, IsCounted, RefusesBytes, RefusesFile, RefusesWords, ServesWhole, StopsInText, GivesBytes, GivesFileText, RefusesWithinLimit, RefusesWithinLimits, IsUsageFor, KeepsFileLimit, LacksBytes, LacksText, MakesText, UnlessStatus, WhereStatus};
 ghost use Rattle.maid_app.specs.Told.{IsAfterWriting, IsBeforeWriting, IsOfReading, AlwaysAbsent, AlwaysAnswers, AlwaysDemoDone, AlwaysDemoRefused, AlwaysDone, AlwaysRefused, AlwaysTooLong, AlwaysWritten, RoseIn, SaysWhyNot, WritesPart, WritesWhole, KeepsLimitsOf, WhereDemo};
 
-use crate::forms::{Form, TextForm, check, form_of};
-use crate::laws::one_status;
-use crate::output::Output;
-use crate::refusal::Refusal;
-use crate::{Status, lines};
+use app_forms::{
+    Form, Output, Refusal, Status, TextForm, answered_diagrams_are_clear, check, form_of, lines,
+    one_status, outcomes_have_their_statuses,
+};
 use app_lines::demo_text;
 use maid_io::{Opened, ReadAllFault, Shelf, Sink, read_all, write_all};
 use std::alloc::Global;
@@ -24,6 +23,15 @@ pub const LIMIT: usize = 4_194_304;
 
 /// The most bytes of a report's text.
 pub const REPORT_LIMIT: usize = 67_108_864;
+
+// The laws of what comes of a request's bytes, in one record.
+fn request_laws()
+    ensures { RequestLaws }
+{
+    one_status();
+    outcomes_have_their_statuses();
+    answered_diagrams_are_clear();
+}
 
 // The refusal that tells the line of these two pieces. The line takes memory, which may run out.
 fn told(alloc: Global, status: Status, head: &[u8], name: &str) -> Refusal
@@ -94,6 +102,7 @@ fn text_of(alloc: Global, form: TextForm<'_>, bytes: &[u8]) -> Result<Vec<u8>, R
     ensures ok { IfOk result (Finishes (Answers (text_request form.entry) bytes.now)) }
     ensures err { IfErr result (RefusesBytes (Answers (text_request form.entry) bytes.now)) }
 {
+    request_laws();
     form.text(alloc, bytes)
 }
 
@@ -135,6 +144,7 @@ fn check_output<H: Shelf>(
     ensures absences { H.absences shelf.old ≤ H.absences shelf.new }
     ensures list { H.list shelf.new ≡ H.list shelf.old }
 {
+    request_laws();
     let text = read_file(alloc, shelf, file, LIMIT)?;
     let (diagram, names) = check::examine(alloc, file, &text)?;
     let bytes = read_file(alloc, shelf, report, REPORT_LIMIT)?;
@@ -274,8 +284,7 @@ pub fn run<H: Shelf, O: Sink, E: Sink>(
     ensures out_faults { O.faults out.old ≤ O.faults out.new }
     ensures err_faults { E.faults err.old ≤ E.faults err.new }
 {
-    // Bytes come to one status.
-    one_status();
+    request_laws();
     match serve(alloc, words, shelf, out) {
         Ok(status) => status,
         Err(refusal) => {

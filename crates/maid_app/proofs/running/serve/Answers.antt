@@ -3,12 +3,12 @@ use Rattle.std.proofs.lemmas.Option.{none-some, same_Some}
 use Rattle.std.proofs.lemmas.Result.{IfOk-from_err}
 use Rattle.std.specs.Io.KnownBytes.{Appends}
 use Rattle.maid_io.specs.Whole.{AppendsPart}
-use Rattle.maid_app.specs.Form.{request_by}
-use Rattle.maid_app.specs.Reading.{IsOfOutput}
-use Rattle.maid_app.specs.Refusal.{status_of}
-use Rattle.maid_app.specs.Request.{requested}
+use Rattle.app_forms.specs.Form.{request_by}
+use Rattle.app_forms.specs.Refusal.{status_of}
+use Rattle.app_forms.specs.Request.{requested}
+use Rattle.maid_app.specs.Steps.{IsOfOutput}
 use Rattle.maid_app.specs.Told.{IsAfterWriting, KeepsFileLimits}
-use Rattle.maid_app.specs.declared.status.Status.TheVariants.{Absent, ReadFault, Usage, WriteFault}
+use Rattle.app_forms.specs.declared.status.Status.TheVariants.{Absent, ReadFault, Usage, WriteFault}
 use Rattle.maid_app.proofs.HandedOn.{err_handed, not_after, other_status}
 use Rattle.maid_app.proofs.Steps.{keeps, says, wrote}
 use Rattle.maid_app.proofs.running.serve.Goals as goal

@@ -1,9 +1,9 @@
 use Rattle.std.proofs.Common.{inl, refl, subst, Ok}
-use Rattle.maid_app.specs.Answers.{Answers}
-use Rattle.maid_app.specs.Form.{text_request}
-use Rattle.maid_app.specs.Outcome.{done_with}
-use Rattle.maid_app.specs.Reading.{RefusesAs}
-use Rattle.maid_app.specs.Refusal.{status_of, line_of}
+use Rattle.app_forms.specs.Answers.{Answers}
+use Rattle.app_forms.specs.Form.{text_request}
+use Rattle.app_forms.specs.Outcome.{done_with}
+use Rattle.app_forms.specs.Refusal.{status_of, line_of}
+use Rattle.maid_app.specs.Steps.{RefusesAs}
 use Rattle.maid_app.proofs.HandedOn.{err_handed}
 use Rattle.maid_app.proofs.Steps.{text_made, bytes_refused, file_refused}
 use Rattle.maid_app.proofs.running.text_output.Goals as goal
@@ -32,4 +32,4 @@ returns-clause-ok g c =
     let own = text_request c.args.form in
     let list = g.H.Shelf.list c.args.shelf.now in
     let given = g.H.Shelf.given c.bytes_for.new.shelf in
-    text_made list own own given (inl refl) c.in_ok-bytes.bytes.items c.in_ok-bytes.ensures.ok _ (subst (λ b. Answers own b (Ok (done_with c.in_ok-text.text.items))) c.deref.ensures.value c.in_ok-text.ensures.ok)
+    text_made list own own given (inl refl) c.in_ok-bytes.bytes.items c.in_ok-bytes.ensures.ok _ (subst (λ b. Answers own b (Ok (done_with c.in_ok-text.text.items))) c.deref.ensures.value c.in_ok-text.ensures.ok) tt

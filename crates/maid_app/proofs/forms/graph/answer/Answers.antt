@@ -1,7 +1,0 @@
-use Rattle.maid_app.specs.Graph.{IsGraphText}
-use Rattle.maid_app.proofs.Refusals.{text_given}
-use Rattle.maid_app.proofs.forms.graph.answer.Goals as goal
-
--- the text is that of the diagram
-pub returns-clause-ok : goal.returns-clause-ok
-returns-clause-ok c = text_given c.args.diagram.now c.args.names.now IsGraphText c.in_ok-graph_text.field-0.items c.in_ok-graph_text.ensures

@@ -1,7 +1,0 @@
-use Rattle.std.proofs.Common.{◌≡◌, take}
-use Rattle.maid_app.specs.Info.{info_text}
-use Rattle.maid_app.proofs.forms.info.info_text.Given as goal
-
--- the lines so far
-abbrev pub invariant-loop-line : goal.invariant-loop-line
-invariant-loop-line l = l.text.items ≡ info_text l.agent l.names (take l.line-index l.lines)
