@@ -326,7 +326,7 @@ fn form_by_row<'a>(
     }
 }
 
-/// The form that the words are of.
+/// The form that the words are of, or `None` where they are of none.
 pub fn form_of(words: &[String]) -> Option<Form<'_>>
     ensures { option_map request_by result ≡ requested words.now }
 {
