@@ -11,6 +11,7 @@ ghost use Rattle.control_incentive.specs.Steps.{IsControlFoundOf};
 use diagram_graph::{MakeFault, decide_at};
 use maid_model::Diagram;
 use optimum_gap::{Baseline, Found, edits_keep_scopes};
+use relevance_graph::walks_to_goals_stand;
 use rule_solver::{KeptDiagram, Workspaces, kept_diagrams_stand};
 use std::alloc::{AllocError, Global};
 
@@ -37,6 +38,7 @@ pub(crate) fn find(
 {
     edits_keep_scopes();
     kept_diagrams_stand();
+    walks_to_goals_stand();
     if !matters {
         return Ok(Found::Worthless);
     }

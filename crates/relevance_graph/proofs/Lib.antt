@@ -2,3 +2,4 @@ pub mod Listing
 pub mod Outcomes
 pub mod Standing
 pub mod Marking
+pub mod InControl

@@ -7,7 +7,7 @@ use Rattle.maid_model.specs.Relevance.{IsInFamily, IsLive}
 use Rattle.maid_model.specs.Views.{NodeView}
 use Rattle.maid_model.specs.Walks.{IsActive, IsReachedFromParent, WithArc, WithNode}
 use Rattle.relevance_graph.specs.declared.searches.KeptSearch.{KeptSearch}
-use Rattle.relevance_graph.specs.Kept.{IsKeptSearch, KeepsSearches}
+use Rattle.relevance_graph.specs.Kept.{IsKeptSearch, KeepsSearches, WalksToGoalsStand}
 
 -- a walk is as active where the same nodes are live, and more
 active_more : (Arc : ℕ → ℕ → Type 0) (Live More Given : ℕ → Type 0) → ((x : ℕ) → Live x → More x) → (walk : List ℕ) → IsActive Arc Live Given walk → IsActive Arc More Given walk
@@ -32,18 +32,20 @@ walk_there nodes others d e goal p n f h =
     (parent_more (Arc others) (IsLive nodes) (IsLive others) (IsInFamily (Arc others) d) (length nodes) e goal f
     (subst (λ (parents : ℕ → List ℕ). IsReachedFromParent (λ u v. Contains (parents v) u) (IsLive nodes) (IsInFamily (λ u v. Contains (parents v) u) d) (length nodes) e goal) p h))
 
-pub search_there : (nodes others : List NodeView) (kept : KeptSearch) → KeepsSearches nodes others → IsKeptSearch nodes kept → IsKeptSearch others kept
-search_there nodes others kept k h = record {
-  decision = k.decision d h.decision;
-  marks = λ e l.
-      let told = h.marks e (subst (λ n. e < n) k.count l) in (
-        (λ m. let r = told.0 m in (r.0, (k.goal d r.0 h.decision).1 r.1, walk_there nodes others d e r.0 parents (sym k.count) (λ v. (k.live v).1) r.2)),
-        (λ r. told.1 (r.0, (k.goal d r.0 h.decision).0 r.1, walk_there others nodes d e r.0 (sym parents) k.count (λ v. (k.live v).0) r.2)),
-      );
-}
+pub walks_there : WalksToGoalsStand
+walks_there nodes others d e k is = (
+  (λ r. (r.0, (k.goal d r.0 is).1 r.1, walk_there nodes others d e r.0 parents (sym k.count) (λ v. (k.live v).1) r.2)),
+  (λ r. (r.0, (k.goal d r.0 is).0 r.1, walk_there others nodes d e r.0 (sym parents) k.count (λ v. (k.live v).0) r.2)),
+)
   where
-    d : ℕ
-    d = kept.decision
-
     parents : parents_of nodes ≡ parents_of others
     parents = fun_ext (λ v. sym (k.parents v))
+
+pub search_there : (nodes others : List NodeView) (kept : KeptSearch) → KeepsSearches nodes others → IsKeptSearch nodes kept → IsKeptSearch others kept
+search_there nodes others kept k h = record {
+  decision = k.decision kept.decision h.decision;
+  marks = λ e l.
+      let told = h.marks e (subst (λ n. e < n) k.count l) in
+      let same = walks_there nodes others kept.decision e k h.decision in
+      ((λ m. same.0 (told.0 m)), (λ r. told.1 (same.1 r)));
+}

@@ -1,10 +1,12 @@
 -- Searches that are kept for later, of other diagrams too.
 use Rattle.std.specs.Prelude.{◌≡◌, ◌↔◌, ℕ, List, length, map}
-use Rattle.maid_model.specs.Nodes.{IsDecision, decisions_of, parents_of}
+use Rattle.maid_model.specs.declared.diagrams.Kind.TheVariants.{Chance}
+use Rattle.maid_model.specs.Edits.{as_decision}
+use Rattle.maid_model.specs.Nodes.{IsDecision, decisions_of, node_at, parents_of}
 use Rattle.maid_model.specs.Relevance.{IsLive, IsGoal}
 use Rattle.maid_model.specs.Views.{NodeView}
 use Rattle.relevance_graph.specs.declared.searches.KeptSearch.{KeptSearch}
-use Rattle.relevance_graph.specs.Steps.{IsSearchedFor}
+use Rattle.relevance_graph.specs.Steps.{IsSearchedFor, LeadsToGoal}
 
 -- what is kept is of a decision among these nodes: from which nodes' extra parents its goals are reached
 pub record IsKeptSearch (nodes : List NodeView) (kept : KeptSearch) : Type 0 where
@@ -28,3 +30,13 @@ pub record KeepsSearches (nodes others : List NodeView) : Type 0 where
 abbrev pub KeptSearchesStand : Type 0
 KeptSearchesStand = (nodes others : List NodeView) (kept : KeptSearch) → KeepsSearches nodes others
     → IsKeptSearch nodes kept → IsKeptSearch others kept
+
+-- and walks lead from the same extra parents to a goal of the decision
+abbrev pub WalksToGoalsStand : Type 0
+WalksToGoalsStand = (nodes others : List NodeView) (d e : ℕ) → KeepsSearches nodes others
+    → IsDecision nodes d → LeadsToGoal nodes d e ↔ LeadsToGoal others d e
+
+-- where a chance node has become a decision, all is kept that searches for the other decisions look at
+abbrev pub ControlKeepsSearches : Type 0
+ControlKeepsSearches = (nodes : List NodeView) (agent x : ℕ) → (node_at nodes x).kind ≡ Chance
+    → KeepsSearches nodes (as_decision nodes agent x)

@@ -8,6 +8,6 @@ mod relevance;
 mod reliance;
 mod searches;
 
-pub use laws::kept_searches_stand;
+pub use laws::{kept_searches_stand, walks_to_goals_stand};
 pub use relevance::{Relevance, find_relevance, find_relevance_with};
 pub use searches::{KeptSearch, keep_searches};

@@ -16,7 +16,7 @@ use Rattle.optimum_gap.specs.Baselines.{HaveNearScopes}
 use Rattle.optimum_gap.specs.Found.{IsGain, TooLarge, Worthless, reason_pass, unless}
 use Rattle.control_incentive.specs.Lines.{controlling}
 use Rattle.rule_solver.specs.Kept.{IsKeptDiagram}
-use Rattle.control_incentive.proofs.Deciding.{behind, owns_made, plans_kept, searches_kept}
+use Rattle.control_incentive.proofs.Deciding.{behind, owns_made, plans_kept}
 use Rattle.control_incentive.proofs.Restoring.{alike_back, restored, within_back}
 use Rattle.control_incentive.proofs.finding.find.Goals as goal
 
@@ -40,7 +40,7 @@ gain-found-requires-clause-kept c =
     let d = c.args.baseline.now.diagram.now in
     let made = as_decision d.nodes c.args.baseline.now.agent c.args.node in
     let plans = plans_kept d.nodes c.args.baseline.now.agent c.args.node c.requires.chance in
-    let searches = searches_kept d.nodes c.args.baseline.now.agent c.args.node c.requires.chance in
+    let searches = c.walks_to_goals_stand.ensures.control d.nodes c.args.baseline.now.agent c.args.node c.requires.chance in
     subst (λ (e : DiagramView). IfSome c.args.kept (λ known. IsKeptDiagram e.nodes known.now)) (sym (decided d c.args.copy.now c.args.baseline.now.agent c.args.node _ c.requires.copy c.in-Ok.ensures.made.0))
     (IfSome_then c.args.kept c.requires.kept (λ known kept. c.kept_diagrams_stand.ensures d.nodes made known.now plans searches kept))
 
