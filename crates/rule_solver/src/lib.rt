@@ -44,7 +44,7 @@ pub use laws::{counted_plans_have_room, measured_plans_have_room, orders_list_de
 pub use limits::{keep_bound, keeps_plan_limits};
 pub use optima::optimum_with;
 pub use rows::row_gains;
-pub use solving::{solve, solve_by};
+pub use solving::{solve, solve_by, solve_by_relevance};
 pub use spaces::Workspaces;
 pub use state_sums::sum_at;
 pub use totals::list_totals;

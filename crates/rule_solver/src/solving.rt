@@ -107,6 +107,32 @@ fn solve_ordered(
     Ok(solve_along(alloc, diagram, relevance, order, &run)?)
 }
 
+/// What `solve` tells of a diagram whose relevance graph is known, with the same refusals.
+pub fn solve_by_relevance(
+    alloc: Global,
+    diagram: &Diagram,
+    relevance: &Relevance,
+) -> Result<Solved, SolveFault>
+    requires { IsRelevance diagram.now.nodes relevance.now }
+    ensures rows { Passes solve_fault (solve_pass diagram.now) result }
+    ensures ok { IfOk result (IsAnswer diagram.now) }
+    ensures subgame_perfect { IfOk result (HasPerfectProfile diagram.now) }
+    ensures optimal { IfOk result (HasOptimalProfile diagram.now) }
+    ensures optimum { IfOk result (PrintsOptima diagram.now) }
+    ensures worth { IfOk result (KeepsWorth diagram.now) }
+{
+    answers_are_subgame_perfect();
+    answers_are_optimal();
+    gains_are_optima();
+    worth_under_the_profile();
+    match relevance.order() {
+        Ok(order) => solve_ordered(alloc, diagram, relevance, order),
+        Err(cycle) => Err(SolveFault::Cycle {
+            list: Vec::from_slice(alloc, cycle)?,
+        }),
+    }
+}
+
 /// The answer of a diagram: the order of solving, at each decision the first best state in each row against the
 /// decision's base, and what the plan is worth to each agent.
 ///
@@ -134,15 +160,6 @@ pub fn solve(alloc: Global, diagram: &Diagram) -> Result<Solved, SolveFault>
     // In a row of a live decision that the answered profile reaches, the printed worth is also that under the profile.
     ensures worth { IfOk result (KeepsWorth diagram.now) }
 {
-    answers_are_subgame_perfect();
-    answers_are_optimal();
-    gains_are_optima();
-    worth_under_the_profile();
     let relevance = find_relevance(alloc, diagram)?;
-    match relevance.order() {
-        Ok(order) => solve_ordered(alloc, diagram, &relevance, order),
-        Err(cycle) => Err(SolveFault::Cycle {
-            list: Vec::from_slice(alloc, cycle)?,
-        }),
-    }
+    solve_by_relevance(alloc, diagram, &relevance)
 }

@@ -5,7 +5,7 @@ use Rattle.maid_model.specs.Subgames.{IsOptimal, IsSubgamePerfect, OwnsAll}
 use Rattle.maid_model.specs.Values.{PrintsOptima}
 use Rattle.relevance_graph.specs.Relevant.{IsBlockedBy, IsOutcome}
 use Rattle.rule_solver.proofs.Promises.{both}
-use Rattle.rule_solver.proofs.solving.solve.Goals as goal
+use Rattle.rule_solver.proofs.solving.solve_by_relevance.Goals as goal
 
 -- each law holds of an answer of a diagram
 pub returns-in-Ok-clause-subgame_perfect : goal.returns-in-Ok-clause-subgame_perfect
@@ -29,17 +29,17 @@ returns-in-Ok-clause-worth c =
     (λ solved d h. c.worth_under_the_profile.ensures.answer c.args.diagram.now solved d.graph d.tables h) c.solve_ordered.ensures.diagram c.solve_ordered.ensures.ok
 
 -- the relevance graph tells the cycle, and that there is no order
-pub returns-clause-rows : goal.returns-clause-rows
-returns-clause-rows c =
+pub returns-in_ok-from_slice-in-Err-clause-rows : goal.returns-in_ok-from_slice-in-Err-clause-rows
+returns-in_ok-from_slice-in-Err-clause-rows c =
     let nodes = c.args.diagram.now.nodes in
-    let blocked : IsBlockedBy nodes c.in-Err.cycle.now = subst (IsOutcome nodes) c.in-Err.ensures c.in_ok-relevance.ensures.outcome in
+    let blocked : IsBlockedBy nodes c.in-Err.cycle.now = subst (IsOutcome nodes) c.in-Err.ensures c.requires.outcome in
     inl (λ o. blocked.no_order o.0 o.1, subst (IsRelianceCycle nodes) (sym c.in_ok-from_slice-in-Err.ensures.items) blocked.is_cycle)
 
 pub solve_ordered-requires-clause-relevance : goal.solve_ordered-requires-clause-relevance
-solve_ordered-requires-clause-relevance c = c.in_ok-relevance.ensures
+solve_ordered-requires-clause-relevance c = c.requires
 
 pub solve_ordered-requires-clause-order : goal.solve_ordered-requires-clause-order
-solve_ordered-requires-clause-order c = subst (IsOutcome c.args.diagram.now.nodes) c.in-Ok.ensures c.in_ok-relevance.ensures.outcome
+solve_ordered-requires-clause-order c = subst (IsOutcome c.args.diagram.now.nodes) c.in-Ok.ensures c.requires.outcome
 
 pub returns-in-Ok-clause-rows : goal.returns-in-Ok-clause-rows
 returns-in-Ok-clause-rows c = c.solve_ordered.ensures.rows
