@@ -14,19 +14,28 @@ use Rattle.maid_model.specs.declared.diagrams.Kind.TheVariants.{Utility}
 use Rattle.maid_model.specs.Answers.{IsFraction, IsReduced}
 use Rattle.maid_model.specs.Diagrams.{IsDiagram}
 use Rattle.maid_model.specs.Nodes.{node_at, states_of}
-use Rattle.maid_model.specs.Profiles.{IsProfile}
+use Rattle.maid_model.specs.Profiles.{IsProfile, uniform_profile}
+use Rattle.maid_model.specs.Tables.{weight_total}
 use Rattle.maid_model.specs.Views.{DiagramView, RuleView}
+use Rattle.maid_model.proofs.Setting.{HasTables}
+use Rattle.maid_model.proofs.Uniform.{uniform_is_profile}
+use Rattle.maid_model.proofs.Weighing.{product_positive}
 use Rattle.maid_laws.proofs.Fractions.{fraction_like}
+use Rattle.maid_laws.proofs.Tied.{tables_of}
 use Rattle.node_sets.specs.declared.sets.NodeSet.{NodeSet}
 use Rattle.node_sets.specs.Sets.{IsIn}
 use Rattle.part_laws.specs.ScopeLaws.{HasUnitRules}
-use Rattle.reach_laws.specs.Evidence.{EvidenceImpossible, IsEvidence, UtilityByUtility, gain_given, mass_given}
+use Rattle.plan_sums.specs.Laws.{missing_total}
+use Rattle.plan_sums.specs.Plans.{lacking_nodes}
+use Rattle.reach_laws.specs.Evidence.{UtilityByUtility, gain_given, mass_given}
 use Rattle.weight_scale.specs.Given.{scope_given}
 use Rattle.evidence.specs.Bounds.{KeepsBoundsGiven}
 use Rattle.evidence.specs.Conditional.{HasGainsGiven, IsExpectedGiven, IsImpossible}
-use Rattle.evidence.specs.Stakes.{HasWorthsAt, IsMassAt, IsGivenStake, chances_lacking, scope_gain_given, scope_mass_given}
+use Rattle.evidence.specs.Sizes.{plan_given}
+use Rattle.evidence.specs.Stakes.{HasWorthsAt, IsMass, IsMassAt, IsGivenStake, chances_lacking, scope_gain_given, scope_mass_given}
 use Rattle.evidence.proofs.PlanCells.{agent_within}
-use Rattle.evidence.proofs.Within.{alone_inside, gain_whole, lacking_positive, left, left_positive, mass_whole, mass_within, worth_within}
+use Rattle.evidence.proofs.Within.{alone_inside, gain_whole, lacking_positive, left, mass_whole, mass_within, worth_within}
+use Rattle.evidence.proofs.Summed as summed
 
 -- ---- one agent after another
 -- one more agent
@@ -49,7 +58,7 @@ gains_push d p x state n gains r g is = record {
         let inside : agent < length gains = subst (λ k. agent < k) (sym g.count) (smaller agent h m) in
         subst (IsExpectedGiven d.nodes (10 ^ d.decimals) p agent x state) (sym (get_or_append_left gains (r ∷ []) e agent inside)) (g.each agent e (smaller agent h m))
 
-module _ (d : DiagramView) (p : List RuleView) (x state : ℕ) (is : IsDiagram d) (within : x < length d.nodes) (profile : IsProfile d.nodes p) (unit : HasUnitRules d.nodes p) (at : state < states_of d.nodes x) where
+module _ (d : DiagramView) (x state : ℕ) (is : IsDiagram d) (within : x < length d.nodes) (at : state < states_of d.nodes x) where
   -- a world with the state at x
   abbrev world : World
   world = with_state (λ v. 0) x state
@@ -60,32 +69,50 @@ module _ (d : DiagramView) (p : List RuleView) (x state : ℕ) (is : IsDiagram d
   world_at : world x ≡ state
   world_at = with_same (λ v. 0) x state
 
-  -- the totals left out of an agent's scope
-  abbrev out : ℕ → ℕ
-  out agent = left d.nodes x agent is.graph within p is.tables profile unit
+  -- ---- whether the state is possible
+  module _ (mass : ℕ) (sums : IsMass d.nodes x state mass) where
+    -- the totals that the plan lacks
+    abbrev missing : List RuleView → ℕ
+    missing p = missing_total d.nodes p (plan_given x None)
 
-  module _ (mass : ℕ) (sums : IsMassAt d.nodes p x state mass) where
+    -- times these the mass is the weight of the worlds with the state
+    weight_under : (p : List RuleView) → HasTables d.nodes p → mass_given d.nodes p x state ≡ pos (mass * missing p)
+    weight_under p t =
+        ap (mass_given d.nodes p x) (sym world_at)
+        ∙ sym (summed.mass_is d.nodes p is.graph t x within world world_in)
+        ∙ ap (λ m. pos (m * missing p)) (sym (sums p world world_in world_at))
+
+    -- so it is nought where they weigh nought under all rules
+    pub impossible_is : mass ≡ 0 → IsImpossible d.nodes x state
+    impossible_is e = record { each = λ p profile. weight_under p (tables_of d.nodes p is.graph is.tables profile) ∙ ap (λ m. pos (m * missing p)) e ∙ ap pos (zero-mul (missing p)) }
+
+    -- and only there: under uniform rules they weigh something otherwise
+    pub possible_is : 0 < mass → IsImpossible d.nodes x state → ⊥
+    possible_is some never = clash (mass * missing p) (mul-pos some (product_positive (weight_total d.nodes p) (lacking_nodes d.nodes (plan_given x None)) t.positive)) (sym (weight_under p t) ∙ never.each p profile)
+      where
+        p : List RuleView
+        p = uniform_profile d.nodes
+
+        profile : IsProfile d.nodes p
+        profile = uniform_is_profile d.nodes is.graph
+
+        t : HasTables d.nodes p
+        t = tables_of d.nodes p is.graph is.tables profile
+
+        clash : (n : ℕ) → 0 < n → pos n ≡ pos 0 → ⊥
+        clash n h e = omega (arith, ints, h, e)
+
+  -- ---- what pure rules are worth
+  module _ (p : List RuleView) (profile : IsProfile d.nodes p) (unit : HasUnitRules d.nodes p) (mass : ℕ) (sums : IsMassAt d.nodes p x state mass) where
+    -- the totals left out of an agent's scope
+    abbrev out : ℕ → ℕ
+    out agent = left d.nodes x agent is.graph within p is.tables profile unit
+
     weight_is : (agent : ℕ) → mass_given d.nodes p x state ≡ pos (out agent * scope_mass_given d.nodes x agent mass)
     weight_is agent = mass_whole d.nodes x agent is.graph within p is.tables profile unit state mass world world_in world_at sums
 
     lacking_some : (agent : ℕ) → 0 < chances_lacking d.nodes x agent None
-    lacking_some agent = lacking_positive d.nodes x agent is.graph within p is.tables profile unit None (alone_inside d.nodes x agent is.graph within)
-
-    -- ---- whether the state is possible
-    pub impossible_is : EvidenceImpossible → IsEvidence d.nodes x → mass ≡ 0 → IsImpossible d.nodes x state
-    impossible_is law evidence e = record { each = λ t h. law d.nodes p t x state is.graph is.tables evidence profile h (weight_is 0 ∙ ap pos (nought (out 0) mass (chances_lacking d.nodes x 0 None) e)) }
-      where
-        nought : (a b c : ℕ) → b ≡ 0 → a * (b * c) ≡ 0
-        nought a b c e = ap (λ n. a * (n * c)) e ∙ ap (λ n. a * n) (zero-mul c) ∙ none a
-          where
-            none : (a : ℕ) → a * 0 ≡ 0
-            none a = omega arith
-
-    pub possible_is : 0 < mass → IsImpossible d.nodes x state → ⊥
-    possible_is some never = clash (out 0 * scope_mass_given d.nodes x 0 mass) (mul-pos (left_positive d.nodes x 0 is.graph within p is.tables profile unit) (mul-pos some (lacking_some 0))) (sym (weight_is 0) ∙ never.each p profile)
-      where
-        clash : (n : ℕ) → 0 < n → pos n ≡ pos 0 → ⊥
-        clash n h e = omega (arith, ints, h, e)
+    lacking_some agent = lacking_positive d.nodes x agent is.graph within None (alone_inside d.nodes x agent is.graph within) is.tables
 
     module _ (worths : List ℤ) (has : HasWorthsAt d.nodes p x state worths) where
       -- ---- an agent's stake
@@ -96,7 +123,7 @@ module _ (d : DiagramView) (p : List RuleView) (x state : ℕ) (is : IsDiagram d
         within = within;
         plain = plain;
         count = has.count;
-        bound = keeps.each agent (agent_within d p x is within profile unit keeps agent l);
+        bound = keeps.each agent (agent_within d agent l);
         is_scope = scoped;
         positive = some;
         mass_fits = mass_within d.nodes x agent is.graph within p is.tables profile unit state mass world world_in world_at sums;

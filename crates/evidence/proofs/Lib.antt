@@ -10,4 +10,5 @@ mod Products
 mod Seen
 mod StakeLemmas
 mod Summed
+mod Unruled
 mod Within

@@ -30,13 +30,9 @@ module _ (nodes : List NodeView) (g : IsGraph nodes) (x : ℕ) where
       go Here = inl (x_kept x refl)
       go (Along {u} {v} a rest) = inr (g.no_utility_parent u v a, (x, inl (x_kept x refl), (v, a, rest)))
 
-  -- the plan without a utility
-  pub alone : (own planned : NodeSet) → ((v : ℕ) → IsIn own v ↔ (v ≡ x)) → ((v : ℕ) → IsIn planned v ↔ ((to : ℕ) × IsIn own to × IsPath (Arc nodes) v to))
-      → (v : ℕ) → IsIn planned v ↔ (in_plan nodes (plan_given x None) v ≡ true)
-  alone own planned o a v = (
-    (λ t. let r = (a v).0 t in of_path None v (subst (IsPath (Arc nodes) v) ((o r.0).0 r.1) r.2)),
-    (λ h. let r = back ((tests_plan_nodes nodes (plan_given x None) v).0 h) in (a v).1 (x, (o x).1 refl, r)),
-  )
+  -- the plan without a utility: a path leads from its nodes to x
+  pub path_alone : (v : ℕ) → in_plan nodes (plan_given x None) v ≡ true → IsPath (Arc nodes) v x
+  path_alone v h = back ((tests_plan_nodes nodes (plan_given x None) v).0 h)
     where
       none_some : (t : ℕ) → None ≡ Some t → ⊥
       none_some t e = cc
@@ -47,6 +43,13 @@ module _ (nodes : List NodeView) (g : IsGraph nodes) (x : ℕ) where
         | inl c ↦ subst (IsPath (Arc nodes) v) (only_x r.1.0 c) (Along d.1 d.2)
         | inr e ↦ absurd (none_some r.1.0 e)
       ]
+
+  pub alone : (own planned : NodeSet) → ((v : ℕ) → IsIn own v ↔ (v ≡ x)) → ((v : ℕ) → IsIn planned v ↔ ((to : ℕ) × IsIn own to × IsPath (Arc nodes) v to))
+      → (v : ℕ) → IsIn planned v ↔ (in_plan nodes (plan_given x None) v ≡ true)
+  alone own planned o a v = (
+    (λ t. let r = (a v).0 t in of_path None v (subst (IsPath (Arc nodes) v) ((o r.0).0 r.1) r.2)),
+    (λ h. (a v).1 (x, (o x).1 refl, path_alone v h)),
+  )
 
   -- the plan with a utility
   pub with_utility : (u : ℕ) → (node_at nodes x).kind ≢ Utility → (node_at nodes u).kind ≡ Utility → (own ends ancestors planned : NodeSet)

@@ -25,7 +25,7 @@ use Rattle.ring_sums.specs.Sums.{ring_product}
 use Rattle.ring_sums.specs.Tables.{product_of}
 use Rattle.ring_sums.proofs.Bounds.{over_le}
 use Rattle.part_laws.specs.ScopeLaws.{HasUnitRules}
-use Rattle.part_laws.proofs.PartLaws.{ancestors_law, listed_kept, positive_law}
+use Rattle.part_laws.proofs.PartLaws.{ancestors_law, listed_kept}
 use Rattle.part_laws.proofs.PartNodes.{Closed, closed_of}
 use Rattle.part_laws.proofs.PartSums.{and_both}
 use Rattle.part_laws.proofs.ScopeBounds.{chances_positive}
@@ -83,6 +83,23 @@ module _ (nodes : List NodeView) (x agent : ℕ) (g : IsGraph nodes) (x_in : x <
       same : (a b : ℕ) → Some a ≡ Some b → a ≡ b
       same a b e = cc
 
+  -- ---- a plan of the scope
+  module _ (utility : Option ℕ) (inside : (v : ℕ) → in_plan nodes (plan_given x utility) v ≡ true → Among v kept) (h : HasChanceTables nodes) where
+    abbrev plan : PlanView
+    plan = plan_given x utility
+
+    abbrev lacking : ℕ
+    lacking = chances_lacking nodes x agent utility
+
+    -- what it lacks in the scope
+    pub lacking_positive : 0 < lacking
+    lacking_positive = product_positive (chance_factor nodes) (lacking_in nodes kept plan) (chances_positive nodes h)
+
+    -- the totals of its tables, times the chance totals that it lacks, are P where no rule's total counts
+    pub tables_within : (p : List RuleView) → ((v : ℕ) → Among v (ruled_nodes nodes plan) → weight_total nodes p v ≡ chance_factor nodes v)
+        → nat_product_over (weight_total nodes p) (ruled_nodes nodes plan) * lacking ≤ product_given nodes x agent
+    tables_within p factor = tables_fit nodes kept closed plan inside (chance_factor nodes) (chances_positive nodes h) (weight_total nodes p) (chance_factor nodes) (λ v m. le_of_eq (factor v m)) (λ v m. le_refl (chance_factor nodes v))
+
   -- ---- with pure rules
   module _ (p : List RuleView) (h : HasChanceTables nodes) (r : IsProfile nodes p) (unit : HasUnitRules nodes p) where
     t : HasTables nodes p
@@ -95,26 +112,16 @@ module _ (nodes : List NodeView) (x agent : ℕ) (g : IsGraph nodes) (x_in : x <
     abbrev pub left : ℕ
     left = mass_left_out nodes p kept
 
-    pub left_positive : 0 < left
-    left_positive = positive_law nodes p kept g h r
-
     -- what a plan of the scope lacks: the totals left out, and the chance totals that it lacks in the scope
-    module _ (utility : Option ℕ) (inside : (v : ℕ) → in_plan nodes (plan_given x utility) v ≡ true → Among v kept) where
-      abbrev plan : PlanView
-      plan = plan_given x utility
+    pub lacks : (utility : Option ℕ) → ((v : ℕ) → in_plan nodes (plan_given x utility) v ≡ true → Among v kept) → missing_total nodes p (plan_given x utility) ≡ left * chances_lacking nodes x agent utility
+    lacks utility inside =
+        missing_is nodes p kept closed (plan_given x utility) inside
+        ∙ ap (λ n. left * n) (product_at (weight_total nodes p) (chance_factor nodes) (lacking_in nodes kept (plan_given x utility)) (λ v m. factor_is v))
 
-      abbrev lacking : ℕ
-      lacking = chances_lacking nodes x agent utility
-
-      pub lacks : missing_total nodes p plan ≡ left * lacking
-      lacks = missing_is nodes p kept closed plan inside ∙ ap (λ n. left * n) (product_at (weight_total nodes p) (chance_factor nodes) (lacking_in nodes kept plan) (λ v m. factor_is v))
-
-      pub lacking_positive : 0 < lacking
-      lacking_positive = product_positive (chance_factor nodes) (lacking_in nodes kept plan) (chances_positive nodes h)
-
-      -- the totals of its tables, times those that it lacks, are P
-      pub tables_within : nat_product_over (weight_total nodes p) (ruled_nodes nodes plan) * lacking ≤ product_given nodes x agent
-      tables_within = tables_fit nodes kept closed plan inside (chance_factor nodes) (chances_positive nodes h) (weight_total nodes p) (chance_factor nodes) (λ v m. le_of_eq (factor_is v)) (λ v m. le_refl (chance_factor nodes v))
+    -- pure rules have totals that don't count
+    pub pure_within : (utility : Option ℕ) → ((v : ℕ) → in_plan nodes (plan_given x utility) v ≡ true → Among v kept)
+        → nat_product_over (weight_total nodes p) (ruled_nodes nodes (plan_given x utility)) * chances_lacking nodes x agent utility ≤ product_given nodes x agent
+    pure_within utility inside = tables_within utility inside h p (λ v m. factor_is v)
 
     none_some : (d : ℕ) → None ≡ Some d → ⊥
     none_some d e = cc
@@ -131,7 +138,7 @@ module _ (nodes : List NodeView) (x agent : ℕ) (g : IsGraph nodes) (x_in : x <
           regroup a b c = sym (mass_is_ring.times_assoc a b c) ∙ ap (λ n. n * c) (mass_is_ring.times_comm a b) ∙ mass_is_ring.times_assoc b a c
 
       pub mass_within : scope_mass_given nodes x agent mass ≤ product_given nodes x agent
-      mass_within = le_trans (mul-le-mul sum_le (le_refl (chances_lacking nodes x agent None))) (tables_within None alone_inside)
+      mass_within = le_trans (mul-le-mul sum_le (le_refl (chances_lacking nodes x agent None))) (pure_within None alone_inside)
         where
           sum_le : mass ≤ nat_product_over (weight_total nodes p) (ruled_nodes nodes (plan_given x None))
           sum_le =
@@ -184,7 +191,7 @@ module _ (nodes : List NodeView) (x agent : ℕ) (g : IsGraph nodes) (x_in : x <
           le_trans (le_of_eq (abs_mul (worth u) (pos lacking)))
           (le_trans (mul-le-mul sum_le (le_refl lacking))
           (le_trans (le_of_eq (mass_is_ring.times_assoc top (nat_product_over (weight_total nodes p) (ruled_nodes nodes plan)) lacking))
-          (le_trans (mul-le-mul (le_refl top) (tables_within (Some u) (utility_inside u (listed u l e)))) (le_of_eq (mass_is_ring.times_comm top (product_given nodes x agent))))))
+          (le_trans (mul-le-mul (le_refl top) (pure_within (Some u) (utility_inside u (listed u l e)))) (le_of_eq (mass_is_ring.times_comm top (product_given nodes x agent))))))
         where
           plan : PlanView
           plan = plan_given x (Some u)

@@ -35,6 +35,10 @@ abbrev pub IsMassAt : List NodeView → List RuleView → ℕ → ℕ → ℕ �
 IsMassAt nodes p x state mass = (q : World) → InRange (states_of nodes) q → q x ≡ state
     → mass ≡ plan_sum mass_cells nodes p (plan_given x None) q
 
+-- so it is under any rules, none of which counts where x descends from no decision
+abbrev pub IsMass : List NodeView → ℕ → ℕ → ℕ → Type 0
+IsMass nodes x state mass = (p : List RuleView) → IsMassAt nodes p x state mass
+
 -- the worth is what the utility's plan sums to there
 abbrev pub IsWorthGivenAt : List NodeView → List RuleView → ℕ → ℕ → ℕ → ℤ → Type 0
 IsWorthGivenAt nodes p x state u worth = (q : World) → InRange (states_of nodes) q → q x ≡ state

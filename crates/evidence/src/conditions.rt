@@ -8,21 +8,22 @@ ghost use Rattle.maid_model.specs.Nodes.{node_at, states_of};
 ghost use Rattle.reach_laws.specs.Evidence.{IsEvidence, all_seeing_diagram};
 ghost use Rattle.evidence.specs.Bounds.{KeepsBoundsGiven};
 ghost use Rattle.evidence.specs.Conditional.{IsBestGiven, IsPerfectSeeing, IsWorthGiven, IsWorthIn};
-ghost use Rattle.evidence.specs.Faults.{answer_pass, given_fault, given_pass, impossible_pass};
-ghost use Rattle.evidence.specs.Plans.{HasFurtherPlans};
+ghost use Rattle.evidence.specs.Faults.{answer_pass, given_fault, given_pass};
+ghost use Rattle.evidence.specs.Plans.{HasUtilityPlans};
 ghost use Rattle.evidence.specs.Sizes.{HasSpace};
+ghost use Rattle.evidence.specs.Stakes.{IsMass};
 
 use crate::faults::GivenFault;
 use crate::limits::answer;
-use crate::measures::GivenPlans;
 use crate::sights::see;
-use crate::sums::gains_given;
+use crate::sums::list_gains;
 use maid_laws::answers_are_subgame_perfect;
 use maid_model::{Diagram, Profile, Ratio, Solved};
 use part_laws::scoped_sums_fit;
 use reach_laws::{best_given, seen_everywhere};
 use rule_solver::Workspaces;
-use std::alloc::Global;
+use size_precheck::Plan;
+use std::alloc::{AllocError, Global};
 
 /// A diagram under evidence.
 #[derive(Debug, Drop)]
@@ -35,30 +36,32 @@ pub struct Conditioned {
     pub gains: Vec<Ratio>,
 }
 
-// What the answer is worth to each agent where the node has the state.
+// What the answer is worth to each agent where the node has the state, whose worlds have this mass.
 fn worth_given(
     alloc: Global,
     diagram: &Diagram,
     solved: &Solved,
     node: usize,
     state: usize,
-    plans: &GivenPlans,
+    mass: u128,
+    plans: &[Option<Plan>],
     spaces: &mut Workspaces,
-) -> Result<Vec<Ratio>, GivenFault>
+) -> Result<Vec<Ratio>, AllocError>
     requires answer { IsAnswer diagram.now solved.now }
     requires within { node < length diagram.now.nodes }
-    requires evidence { IsEvidence diagram.now.nodes node }
+    requires kind { (node_at diagram.now.nodes node).kind ≡ Chance }
     requires state { state < states_of diagram.now.nodes node }
     requires bounds { KeepsBoundsGiven diagram.now node }
-    requires planned { HasFurtherPlans diagram.now.nodes node plans.now }
+    requires planned { HasUtilityPlans diagram.now.nodes node plans.now }
     requires ready { HasSpace diagram.now.nodes node spaces.old }
-    ensures rows { Passes given_fault (impossible_pass diagram.now node state) result }
+    requires mass { IsMass diagram.now.nodes node state mass }
+    requires positive { 0 < mass }
     ensures gains { IfOk result (λ v. IsWorthIn diagram.now node state solved.now v.items) }
 {
     scoped_sums_fit();
     let _count = diagram.count();
     let profile = Profile::pure(alloc, diagram, &solved.answers)?;
-    gains_given(alloc, diagram, &profile, node, state, plans, spaces)
+    list_gains(alloc, diagram, &profile, node, state, mass, plans, spaces)
 }
 
 // The answer of a diagram in which every decision sees the node, and what it is worth to each agent
@@ -76,9 +79,10 @@ fn condition(
     ensures ok { IfOk result (λ made. IsAnswer seen.now made.0) }
     ensures gains { IfOk result (λ made. IsWorthIn seen.now node state made.0 made.1.items) }
 {
-    let mut answered = answer(alloc, seen, node)?;
-    let (solved, plans, spaces) = (&answered.solved, &answered.plans, &mut answered.spaces);
-    let gains = worth_given(alloc, seen, solved, node, state, plans, spaces);
+    let mut answered = answer(alloc, seen, node, state)?;
+    let (solved, mass) = (&answered.solved, answered.mass);
+    let (plans, spaces) = (&answered.plans.utilities, &mut answered.spaces);
+    let gains = worth_given(alloc, seen, solved, node, state, mass, plans, spaces);
     // Of the run only the answer is kept, whether there are gains or not.
     Ok((answered.into_solved(), gains?))
 }
@@ -89,8 +93,10 @@ fn condition(
 /// has the state, over their weight.
 ///
 /// It copies the diagram, and solves the copy as `rule_solver::solve` does. Beside the plans of the
-/// run there is one that keeps the node, and one that keeps it with each utility. All plans are made
-/// once, and run in workspaces that are reserved once, with the most cells of a plan.
+/// run there is one that keeps the node, and one that keeps it with each utility. All plans are
+/// made once, and run in workspaces that are reserved once, with the most cells of a plan. The one
+/// that keeps the node alone is run first: impossible evidence is refused before anything is
+/// solved.
 ///
 /// # Errors
 ///

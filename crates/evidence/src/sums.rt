@@ -1,50 +1,50 @@
 //! Conditional expected utilities by plans of elimination.
 
-ghost use Rattle.std.specs.Prelude.{◌≡◌, ◌<◌, IfOk, None, Option, Some, length};
-ghost use Rattle.first_fault.specs.Answers.{Passes};
-ghost use Rattle.maid_model.specs.Diagrams.{IsDiagram};
+ghost use Rattle.std.specs.Prelude.{◌≡◌, ◌<◌, IfOk, None, OnOk, Option, Some, length};
 ghost use Rattle.maid_model.specs.declared.diagrams.Kind.TheVariants.{Utility};
-ghost use Rattle.maid_model.specs.Nodes.{node_at};
+ghost use Rattle.maid_model.specs.Nodes.{node_at, states_of};
 ghost use Rattle.reach_laws.specs.Evidence.{IsEvidence};
 ghost use Rattle.size_precheck.specs.Sizes.{IsPlanned};
 ghost use Rattle.rule_solver.specs.Totals.{HasTotals};
+ghost use Rattle.evidence.specs.Bounds.{KeepsBoundsGiven};
 ghost use Rattle.evidence.specs.Conditional.{HasAllGains};
-ghost use Rattle.evidence.specs.Faults.{given_fault, impossible_pass};
-ghost use Rattle.evidence.specs.Plans.{HasFurtherPlans, HasUtilityPlans, IsPlanIf};
+ghost use Rattle.evidence.specs.Plans.{HasUtilityPlans, IsPlanIf};
 ghost use Rattle.evidence.specs.Sizes.{HasSpace, HasSpaceFor, plan_given};
-ghost use Rattle.evidence.specs.Stakes.{HasWorthsAt, IsMassAt, IsGivenSetting, IsWorthGivenAt, IsWorthIf};
+ghost use Rattle.evidence.specs.Stakes.{HasWorthsAt, IsGivenSetting, IsMass, IsMassAt};
+ghost use Rattle.evidence.specs.Stakes.{IsWorthGivenAt, IsWorthIf};
 
-use crate::faults::GivenFault;
-use crate::measures::GivenPlans;
 use crate::stakes::Stake;
 use maid_model::{Diagram, Profile, Ratio};
-use reach_laws::{best_given, scopes_of_evidence};
+use reach_laws::scopes_of_evidence;
 use rule_solver::{Workspaces, list_totals, sum_at};
 use size_precheck::Plan;
 use std::alloc::{AllocError, Global};
 use weight_scale::scope_given;
 
-/// What the plan that keeps the node sums to at the state.
-fn mass_at(
+/// What the plan that keeps the node sums to at the state. The node descends from no decision, so
+/// the plan has no rule, and the sum is the same whatever the rules are: it's made under uniform
+/// ones.
+pub(crate) fn mass_of(
+    alloc: Global,
     diagram: &Diagram,
-    profile: &Profile,
-    totals: &[u128],
     node: usize,
     state: usize,
     plan: &Plan,
     spaces: &mut Workspaces,
-) -> u128
-    requires setting { IsGivenSetting diagram.now profile.now node state }
-    requires totals { HasTotals diagram.now.nodes profile.now totals.now }
+) -> Result<u128, AllocError>
+    requires within { node < length diagram.now.nodes }
+    requires evidence { IsEvidence diagram.now.nodes node }
+    requires state { state < states_of diagram.now.nodes node }
+    requires bounds { KeepsBoundsGiven diagram.now node }
     requires planned { IsPlanned diagram.now.nodes (plan_given node None) plan.now }
     requires ready { HasSpaceFor diagram.now.nodes (plan_given node None) spaces.old }
-    ensures mass { IsMassAt diagram.now.nodes profile.now node state result }
-    ensures diagram { IsDiagram diagram.now }
-    ensures again { spaces.new ≡ spaces.old }
+    ensures mass { IfOk result (λ mass. IsMass diagram.now.nodes node state mass) }
+    ensures again { OnOk result (spaces.new ≡ spaces.old) }
 {
-    let _count = diagram.count();
-    let sum = sum_at(diagram, profile, totals, node, state, plan, spaces);
-    sum.unsigned_abs()
+    let profile = Profile::uniform(alloc, diagram)?;
+    let totals = list_totals(alloc, diagram, &profile)?;
+    let sum = sum_at(diagram, &profile, &totals, node, state, plan, spaces);
+    Ok(sum.unsigned_abs())
 }
 
 /// What the plan that keeps the node sums to at the state with the utility.
@@ -124,11 +124,10 @@ fn list_worths(
 
 /// What the profile, whose rules are pure, is worth to each agent where the node has the state,
 /// whose worlds have this mass. It runs one plan for each utility.
-fn list_gains(
+pub(crate) fn list_gains(
     alloc: Global,
     diagram: &Diagram,
     profile: &Profile,
-    totals: &[u128],
     node: usize,
     state: usize,
     mass: u128,
@@ -136,7 +135,6 @@ fn list_gains(
     spaces: &mut Workspaces,
 ) -> Result<Vec<Ratio>, AllocError>
     requires setting { IsGivenSetting diagram.now profile.now node state }
-    requires totals { HasTotals diagram.now.nodes profile.now totals.now }
     requires planned { HasUtilityPlans diagram.now.nodes node plans.now }
     requires ready { HasSpace diagram.now.nodes node spaces.old }
     requires mass { IsMassAt diagram.now.nodes profile.now node state mass }
@@ -144,7 +142,8 @@ fn list_gains(
     ensures gains { IfOk result (λ v. HasAllGains diagram.now profile.now node state v.items) }
 {
     scopes_of_evidence();
-    let worths = list_worths(alloc, diagram, profile, totals, node, state, plans, spaces)?;
+    let totals = list_totals(alloc, diagram, profile)?;
+    let worths = list_worths(alloc, diagram, profile, &totals, node, state, plans, spaces)?;
     let mut gains = Vec::with_capacity(alloc, diagram.agents())?;
     for agent in 0..diagram.agents() {
         let stake = Stake {
@@ -157,37 +156,5 @@ fn list_gains(
         };
         gains.push(stake.expected())?;
     }
-    Ok(gains)
-}
-
-/// What the profile, whose rules are pure, is worth to each agent where the node has the state.
-/// It runs the plan that keeps the node, and that with each utility.
-pub(crate) fn gains_given(
-    alloc: Global,
-    diagram: &Diagram,
-    profile: &Profile,
-    node: usize,
-    state: usize,
-    plans: &GivenPlans,
-    spaces: &mut Workspaces,
-) -> Result<Vec<Ratio>, GivenFault>
-    requires setting { IsGivenSetting diagram.now profile.now node state }
-    requires evidence { IsEvidence diagram.now.nodes node }
-    requires planned { HasFurtherPlans diagram.now.nodes node plans.now }
-    requires ready { HasSpace diagram.now.nodes node spaces.old }
-    ensures rows { Passes given_fault (impossible_pass diagram.now node state) result }
-    ensures gains { IfOk result (λ v. HasAllGains diagram.now profile.now node state v.items) }
-{
-    best_given();
-    let totals = list_totals(alloc, diagram, profile)?;
-    let alone = &plans.alone;
-    let mass = mass_at(diagram, profile, &totals, node, state, alone, spaces);
-    if mass == 0 {
-        return Err(GivenFault::Impossible);
-    }
-    let utilities = &plans.utilities;
-    let gains = list_gains(
-        alloc, diagram, profile, &totals, node, state, mass, utilities, spaces,
-    )?;
     Ok(gains)
 }

@@ -1,7 +1,7 @@
 use borrow.Author.Count.{falls}
-use Rattle.std.proofs.lemmas.Result.{IfOk-from_err}
 use Rattle.std.proofs.Common.{◌<◌, ◌+◌, List, sym, subst}
 use Rattle.maid_model.specs.declared.answers.Ratio.{Ratio}
+use Rattle.rule_solver.specs.Totals.{HasTotals}
 use Rattle.evidence.specs.Conditional.{HasGainsGiven}
 use Rattle.evidence.specs.Stakes.{HasWorthsAt}
 use Rattle.evidence.proofs.Conditional.{expected_is, gains_push, stake}
@@ -14,8 +14,8 @@ expected-requires c =
     let p = c.args.profile.now in
     let within : c.loop-agent.agent < d.agents = subst (λ n. c.loop-agent.agent < n) c.agents-agent-end.ensures.agents c.loop-agent-test.true in
     record {
-      stake = stake d p c.args.node c.args.state c.agents.ensures.diagram c.requires.setting.within c.requires.setting.profile c.requires.setting.rules c.requires.setting.has_state c.args.mass c.requires.mass c.deref.result.now
-          (subst (HasWorthsAt d.nodes p c.args.node c.args.state) (sym c.deref.ensures.value) c.in_ok-worths.ensures)
+      stake = stake d c.args.node c.args.state c.agents.ensures.diagram c.requires.setting.within c.requires.setting.has_state p c.requires.setting.profile c.requires.setting.rules c.args.mass c.requires.mass c.deref-in-loop-agent.result.now
+          (subst (HasWorthsAt d.nodes p c.args.node c.args.state) (sym c.deref-in-loop-agent.ensures.value) c.in_ok-worths.ensures)
           c.requires.setting.kind c.requires.setting.bounds c.requires.positive c.loop-agent.agent within c.scope_given.result c.scope_given.ensures;
     }
 
@@ -25,30 +25,12 @@ loop-agent-preserved c =
     let p = c.args.profile.now in
     subst (HasGainsGiven d p c.args.node c.args.state (c.loop-agent.agent + 1)) (sym {A = List Ratio} c.in_ok-push.ensures.items)
     (gains_push d p c.args.node c.args.state c.loop-agent.agent c.loop-agent.gains.items c.expected.result c.loop-agent.invariant
-    (expected_is d p c.args.node c.args.state c.agents.ensures.diagram c.requires.setting.within c.requires.setting.profile c.requires.setting.rules c.requires.setting.has_state c.args.mass c.requires.mass c.deref.result.now
-    (subst (HasWorthsAt d.nodes p c.args.node c.args.state) (sym c.deref.ensures.value) c.in_ok-worths.ensures)
+    (expected_is d c.args.node c.args.state c.agents.ensures.diagram c.requires.setting.within c.requires.setting.has_state p c.requires.setting.profile c.requires.setting.rules c.args.mass c.requires.mass c.deref-in-loop-agent.result.now
+    (subst (HasWorthsAt d.nodes p c.args.node c.args.state) (sym c.deref-in-loop-agent.ensures.value) c.in_ok-worths.ensures)
     c.scopes_of_evidence.ensures.utilities c.requires.positive c.loop-agent.agent c.expected.result c.expected.ensures (scale_some d.decimals)))
 
-pub list_worths-requires-clause-setting : goal.list_worths-requires-clause-setting
-list_worths-requires-clause-setting c = c.requires.setting
-
 pub list_worths-requires-clause-totals : goal.list_worths-requires-clause-totals
-list_worths-requires-clause-totals c = c.requires.totals
-
-pub list_worths-requires-clause-planned : goal.list_worths-requires-clause-planned
-list_worths-requires-clause-planned c = c.requires.planned
-
-pub list_worths-requires-clause-ready : goal.list_worths-requires-clause-ready
-list_worths-requires-clause-ready c = c.requires.ready
-
-pub returns-in_err-worths : goal.returns-in_err-worths
-returns-in_err-worths c = record { gains = IfOk-from_err _ _ c.from_residual.ensures.0 }
-
-pub returns-in_err-gains : goal.returns-in_err-gains
-returns-in_err-gains c = record { gains = IfOk-from_err _ _ c.from_residual-in_err-gains.ensures.0 }
-
-pub returns-in_err-push : goal.returns-in_err-push
-returns-in_err-push c = record { gains = IfOk-from_err _ _ c.from_residual-in_err-push.ensures.0 }
+list_worths-requires-clause-totals c = subst (HasTotals c.args.diagram.now.nodes c.args.profile.now) (sym c.deref.ensures.value) c.in_ok-totals.ensures.totals
 
 pub loop-agent-smaller : goal.loop-agent-smaller
 loop-agent-smaller c = falls _ _ c.loop-agent-test.true

@@ -19,7 +19,7 @@ pub sum_at-requires-clause-fits : goal.sum_at-requires-clause-fits
 sum_at-requires-clause-fits c =
     let d = c.args.diagram.now in
     subst (λ (plan : PlanView). 2 * plan_total d.nodes c.args.profile.now plan ≤ most_size) (sym c.requires.planned.made.plan)
-    (utility_fits d c.args.profile.now c.args.node c.count-count.ensures.diagram c.requires.setting.within c.requires.setting.profile c.requires.setting.rules c.requires.setting.bounds c.args.utility c.requires.within c.requires.kind)
+    (utility_fits d c.args.profile.now c.args.node c.count-count.ensures.diagram c.requires.setting.within c.requires.setting.bounds c.requires.setting.profile c.requires.setting.rules c.args.utility c.requires.within c.requires.kind)
 
 pub sum_at-requires-clause-ready : goal.sum_at-requires-clause-ready
 sum_at-requires-clause-ready c =
