@@ -4,7 +4,8 @@ ghost use Rattle.std.specs.Prelude.{◌≡◌, [], IfOk};
 ghost use Rattle.form_tests.specs.Moving.{bet, oil, steer, signal_weights};
 
 use maid_model::{Diagram, Ratio};
-use rule_solver::{SolveFault, solve};
+use relevance_graph::find_relevance;
+use rule_solver::{SolveFault, solve_by_relevance};
 use sample_diagrams::{chance, decision, sample_diagram, utility};
 use std::alloc::{AllocError, Global};
 use std::test::Fail;
@@ -82,8 +83,9 @@ fn interval(now: (i128, u128), low: (i128, u128), high: (i128, u128)) -> Interva
 /// How far the probability of a dry well may move.
 fn dry(alloc: Global) -> Result<Result<Interval, SpanFault>, SolveFault> {
     let diagram = oil(alloc)?;
-    let solved = solve(alloc, &diagram)?;
-    Ok(span(alloc, &diagram, &solved, 1, 0, 0))
+    let relevance = find_relevance(alloc, &diagram)?;
+    let solved = solve_by_relevance(alloc, &diagram, &relevance)?;
+    Ok(span(alloc, &diagram, &relevance, &solved, 1, 0, 0))
 }
 
 // Below 27/59 not testing is better, since testing is worth 83 - 121q and not testing 110 - 180q;
@@ -98,9 +100,10 @@ fn a_well_may_be_dry(rt: HostRuntime) -> Result<(), Fail> {
 /// How far the signal's two probabilities may move.
 fn signals(alloc: Global, even: bool) -> Result<[Result<Interval, SpanFault>; 2], SolveFault> {
     let diagram = steer(alloc, even)?;
-    let solved = solve(alloc, &diagram)?;
-    let first = span(alloc, &diagram, &solved, 0, 0, 0);
-    let second = span(alloc, &diagram, &solved, 0, 1, 0);
+    let relevance = find_relevance(alloc, &diagram)?;
+    let solved = solve_by_relevance(alloc, &diagram, &relevance)?;
+    let first = span(alloc, &diagram, &relevance, &solved, 0, 0, 0);
+    let second = span(alloc, &diagram, &relevance, &solved, 0, 1, 0);
     Ok([first, second])
 }
 
@@ -122,9 +125,10 @@ fn a_signal_may_move_freely(rt: HostRuntime) -> Result<(), Fail> {
 /// How far the first probability of the bet's signal and the second of its echo may move.
 fn bets(alloc: Global) -> Result<[Result<Interval, SpanFault>; 2], SolveFault> {
     let diagram = bet(alloc)?;
-    let solved = solve(alloc, &diagram)?;
-    let first = span(alloc, &diagram, &solved, 0, 0, 0);
-    let echo = span(alloc, &diagram, &solved, 3, 1, 1);
+    let relevance = find_relevance(alloc, &diagram)?;
+    let solved = solve_by_relevance(alloc, &diagram, &relevance)?;
+    let first = span(alloc, &diagram, &relevance, &solved, 0, 0, 0);
+    let echo = span(alloc, &diagram, &relevance, &solved, 3, 1, 1);
     Ok([first, echo])
 }
 

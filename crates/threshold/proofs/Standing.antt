@@ -1,6 +1,6 @@
 -- The answer of a decision that does not rely on the moved table holds at all fractions.
 use Rattle.std.proofs.Common.{◌≡◌, ◌⊎◌, ◌∙◌, ℕ, zero, suc, ◌<◌, ◌≤◌, All, true, false, List, [], slice_index_or, refl, sym, ap, subst, inl, inr, ℤ, pos, negsuc, ◌≤ℤ◌, ◌<ℤ◌, arith}
-use Rattle.std.specs.Prelude.{Option, Some, None, is_some}
+use Rattle.std.specs.Prelude.{is_some}
 use Rattle.std.specs.List.{list_all}
 use Rattle.std.proofs.lemmas.Int.{ints}
 use Rattle.std.proofs.lemmas.List.{get_or_default}
@@ -10,21 +10,22 @@ use Rattle.maid_laws.proofs.AnswerLaws.{answers_fit}
 use Rattle.maid_laws.proofs.RowLaws.{mass_at_least}
 use Rattle.maid_laws.proofs.Tied.{tables_of}
 use Rattle.maid_model.specs.declared.answers.Row.{Row}
+use Rattle.maid_model.specs.declared.diagrams.Kind.TheVariants.{Chance}
 use Rattle.maid_model.specs.Answers.{IsAnswer, IsAnswerAt, IsAnswerRow, answered, no_row, rows_at}
 use Rattle.maid_model.specs.Diagrams.{IsDiagram}
 use Rattle.maid_model.specs.Edits.{as_decision}
 use Rattle.maid_model.specs.Gains.{gain_at, mass_at}
-use Rattle.maid_model.specs.Nodes.{IsDecision, rows_of, states_of}
+use Rattle.maid_model.specs.Nodes.{IsDecision, node_at, rows_of, states_of}
 use Rattle.maid_model.specs.Relevance.{ReliesOn}
 use Rattle.maid_model.specs.Views.{NodeView, AnswerView, DiagramView, SolvedView}
 use Rattle.reach_laws.specs.Threshold.{IsMoved, IsPlace, state_weight}
 use Rattle.reach_laws.proofs.ListOrder.{weights_law}
-use Rattle.relevance_graph.specs.Views.{RelevanceView}
+use Rattle.relevance_graph.specs.Kept.{ControlKeepsSearches, WalksToGoalsStand}
 use Rattle.threshold.specs.declared.answers.Question.{Question}
 use Rattle.threshold.specs.declared.held.Held.{Held}
 use Rattle.threshold.specs.declared.weights.Place.{Place}
 use Rattle.threshold.specs.Answers.{HoldsAnswer, HoldsAtAll, HoldsAtFraction, IsAnswerOf, IsQuestion, IsHeld, AnswerStands}
-use Rattle.threshold.specs.Control.{IsControlled, IsFreeOf}
+use Rattle.threshold.specs.Control.{IsFreeOf}
 use Rattle.threshold.specs.Held.{IsRange, IsWithin, Narrows}
 use Rattle.threshold.proofs.Assembling.{answered_by}
 use Rattle.threshold.proofs.Holding.{answer_decides, answer_fits, answer_rows, decision_in}
@@ -86,30 +87,34 @@ module _ (d : DiagramView) (solved : SolvedView) (place : Place) (is : IsDiagram
   stays num den positive moved m = record { base = told.base; is_base = told.is_base; best = λ choice other line i j l w. best num den positive moved m line choice other l i j (chosen line choice l i w) }
 
 -- ---- in the names of the code
-free_of : (d : DiagramView) (x v : ℕ) (known : Option RelevanceView) → IsControlled d x known → IsFreeOf known v x → ReliesOn (as_decision d.nodes 0 x) v x → ⊥
-free_of d x v None c f r = f
-free_of d x v (Some relevance) c f r = f ((c.pairs v x).1 r)
+-- where x is a decision, the same walks lead to the goals of the others
+module _ (control : ControlKeepsSearches) (walks : WalksToGoalsStand) where
+  free_of : (nodes : List NodeView) (x v : ℕ) → (node_at nodes x).kind ≡ Chance → IsDecision nodes v → IsFreeOf nodes v x → ReliesOn (as_decision nodes 0 x) v x → ⊥
+  free_of nodes x v k is f r = f ((walks nodes (as_decision nodes 0 x) v x (control nodes 0 x k) is).1 (r.goal, r.is_goal, r.walk))
 
-module _ (q : Question) (asked : IsQuestion q) where
-  place_is : IsPlace q.diagram.now.nodes q.place.node q.place.state q.place.row
-  place_is = is_place q.diagram.now.nodes q.place asked.setting.is_diagram.tables asked.setting.cell asked.setting.ends.some
+  module _ (q : Question) (asked : IsQuestion q) where
+    place_is : IsPlace q.diagram.now.nodes q.place.node q.place.state q.place.row
+    place_is = is_place q.diagram.now.nodes q.place asked.setting.is_diagram.tables asked.setting.cell asked.setting.ends.some
 
-  pub stands_holds : (answer : AnswerView) → IsAnswerOf q.solved.now answer → AnswerStands q answer → (num den : ℕ) → 0 < den → HoldsAnswer q answer num den
-  stands_holds answer of s = stays q.diagram.now q.solved.now q.place asked.setting.is_diagram asked.setting.answer place_is answer of 0 (free_of q.diagram.now q.place.node answer.decision q.controlled asked.controlled s.free) s.reached
+    pub stands_holds : (answer : AnswerView) → IsAnswerOf q.solved.now answer → AnswerStands q answer → (num den : ℕ) → 0 < den → HoldsAnswer q answer num den
+    stands_holds answer of s =
+        let is = answer_decides q.diagram.now q.solved.now asked.setting.answer.fits answer of in
+        let free = free_of q.diagram.now.nodes q.place.node answer.decision asked.setting.cell.kind is s.free in
+        stays q.diagram.now q.solved.now q.place asked.setting.is_diagram asked.setting.answer place_is answer of 0 free s.reached
 
-  -- the interval stays as it is
-  pub narrows_by_nothing : (answer : AnswerView) → IsAnswerOf q.solved.now answer → AnswerStands q answer → (held : Held) → IsRange held → Narrows (HoldsAnswer q answer) held held
-  narrows_by_nothing answer of s held r = record { range = r; within = λ num den p l. ((λ w. (w, stands_holds answer of s num den p)), (λ w. w.0)) }
+    -- the interval stays as it is
+    pub narrows_by_nothing : (answer : AnswerView) → IsAnswerOf q.solved.now answer → AnswerStands q answer → (held : Held) → IsRange held → Narrows (HoldsAnswer q answer) held held
+    narrows_by_nothing answer of s held r = record { range = r; within = λ num den p l. ((λ w. (w, stands_holds answer of s num den p)), (λ w. w.0)) }
 
-  -- where all answers stand, all fractions are held
-  pub all_held : All (AnswerStands q) q.solved.now.answers → (held : Held) → ((num den : ℕ) → num ≤ den → IsWithin held num den) → IsHeld q.diagram.now.nodes (answered q.diagram.now q.solved.now) q.place held
-  all_held all held every = record { within = λ num den p l. ((λ w. at num den p), (λ h. every num den l)) }
-    where
-      at : (num den : ℕ) → 0 < den → HoldsAtAll q.diagram.now.nodes (answered q.diagram.now q.solved.now) q.place num den
-      at num den p v k =
-          let by = answered_by q.diagram.now q.solved.now q.place asked.setting.answer.fits v k in
-          let nothing : AnswerView = record { decision = 0; rows = [] } in
-          let answer = slice_index_or q.solved.now.answers by.0 nothing in
-          let same : slice_index_or q.solved.now.answers by.0 answer ≡ answer = get_or_default q.solved.now.answers by.0 answer nothing by.1 in
-          subst (λ u. HoldsAtFraction q.diagram.now.nodes (answered q.diagram.now q.solved.now) q.place u num den) (sym (decision_in q.solved.now.answers by.0 answer by.1 same) ∙ by.2)
-          (stands_holds answer (by.0, by.1, sym same) (all by.0 nothing by.1) num den p)
+    -- where all answers stand, all fractions are held
+    pub all_held : All (AnswerStands q) q.solved.now.answers → (held : Held) → ((num den : ℕ) → num ≤ den → IsWithin held num den) → IsHeld q.diagram.now.nodes (answered q.diagram.now q.solved.now) q.place held
+    all_held all held every = record { within = λ num den p l. ((λ w. at num den p), (λ h. every num den l)) }
+      where
+        at : (num den : ℕ) → 0 < den → HoldsAtAll q.diagram.now.nodes (answered q.diagram.now q.solved.now) q.place num den
+        at num den p v k =
+            let by = answered_by q.diagram.now q.solved.now q.place asked.setting.answer.fits v k in
+            let nothing : AnswerView = record { decision = 0; rows = [] } in
+            let answer = slice_index_or q.solved.now.answers by.0 nothing in
+            let same : slice_index_or q.solved.now.answers by.0 answer ≡ answer = get_or_default q.solved.now.answers by.0 answer nothing by.1 in
+            subst (λ u. HoldsAtFraction q.diagram.now.nodes (answered q.diagram.now q.solved.now) q.place u num den) (sym (decision_in q.solved.now.answers by.0 answer by.1 same) ∙ by.2)
+            (stands_holds answer (by.0, by.1, sym same) (all by.0 nothing by.1) num den p)

@@ -7,6 +7,7 @@ use Rattle.maid_model.specs.Diagrams.{IsDiagram}
 use Rattle.maid_model.specs.Nodes.{IsDecision}
 use Rattle.maid_model.specs.Views.{NodeView, DiagramView, RuleView, AnswerView, SolvedView}
 use Rattle.reach_laws.specs.Threshold.{HoldsAt, IsMoved, state_weight}
+use Rattle.relevance_graph.specs.Relevant.{IsRelevance}
 use Rattle.rule_solver.specs.declared.spaces.Workspaces.{Workspaces}
 use Rattle.rule_solver.specs.Faults.{IsSmallEnough}
 use Rattle.rule_solver.specs.Rooms.{AreReadyForDecision, HasRoomForDecision}
@@ -15,7 +16,7 @@ use Rattle.size_precheck.specs.Decisions.{AreDecisionPlans}
 use Rattle.threshold.specs.declared.answers.Question.{Question}
 use Rattle.threshold.specs.declared.held.Held.{Held}
 use Rattle.threshold.specs.declared.weights.Place.{Place}
-use Rattle.threshold.specs.Control.{IsControlled, IsFreeOf}
+use Rattle.threshold.specs.Control.{IsFreeOf}
 use Rattle.threshold.specs.Ends.{AreEnds}
 use Rattle.threshold.specs.Held.{HoldsSomewhere, IsWithin}
 use Rattle.threshold.specs.Weights.{IsCell}
@@ -54,14 +55,14 @@ IsAnswerOf solved answer =
     (i : ℕ) × (i < length solved.answers) × (answer ≡ slice_index_or solved.answers i answer)
 
 -- ---- in the names of the code
--- what is asked may be answered, and the relevance graph is that where the node is a decision
+-- what is asked may be answered, and the relevance graph is the diagram's
 pub record IsQuestion (q : Question) : Type 0 where
   pub setting : IsThresholdSetting q.diagram.now q.solved.now q.place q.nought.now q.one.now
-  pub controlled : IsControlled q.diagram.now q.place.node q.controlled
+  pub relevance : IsRelevance q.diagram.now.nodes q.relevance.now
 
 -- the answer's decision does not rely on the node's table, and each of its rows is reached, or the state has weight
 pub record AnswerStands (q : Question) (answer : AnswerView) : Type 0 where
-  pub free : IsFreeOf q.controlled answer.decision q.place.node
+  pub free : IsFreeOf q.diagram.now.nodes answer.decision q.place.node
   pub reached : (pos 0 <ℤ state_weight q.diagram.now.nodes q.place.node q.place.state q.place.row)
       ⊎ (list_all (λ row. is_some row.worth) answer.rows ≡ true)
 

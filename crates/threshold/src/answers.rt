@@ -10,26 +10,26 @@ ghost use Rattle.threshold.specs.Answers.{HoldsAllAnswers, HoldsAnswer, IsAnswer
 ghost use Rattle.threshold.specs.Answers.{IsQuestion, IsThresholdSetting, KeepsPlanCells};
 ghost use Rattle.threshold.specs.Held.{IsRange, Narrows};
 
-use crate::control::{all_reached, find_controlled, is_free};
+use crate::control::{all_reached, is_free};
 use crate::ends::Ends;
 use crate::held::{Held, all_fractions, narrow_rows};
 use crate::weights::{Place, weight_there};
 use maid_model::{Answer, Diagram, Solved};
-use relevance_graph::{Relevance, find_relevance};
+use relevance_graph::{Relevance, walks_to_goals_stand};
 use rule_solver::{Workspaces, base_of, measured_plans_have_room, row_gains_by, spaces_for};
 use size_precheck::{DecisionPlans, Planner, greedy_orders, kept_plans_stand, plan_decision_by};
 use std::alloc::{AllocError, Global};
 
-/// A diagram and its answer, the place whose probability moves, the diagrams in which it is 0 and 1,
-/// and the relevance graph where the place's node is a decision, if its rule is not too large.
+/// A diagram with its relevance graph and its answer, the place whose probability moves, and the
+/// diagrams in which it is 0 and 1.
 #[derive(Drop)]
 struct Question<'a> {
     diagram: &'a Diagram,
+    relevance: &'a Relevance,
     solved: &'a Solved,
     place: Place,
     nought: &'a Diagram,
     one: &'a Diagram,
-    controlled: Option<Relevance>,
 }
 
 impl<'a> Question<'a> {
@@ -41,10 +41,10 @@ impl<'a> Question<'a> {
         requires answer { IsAnswerOf self.now.solved.now answer.now }
         ensures { IsTrue result ↔ AnswerStands self.now answer.now }
     {
-        let Place { node, .. } = self.place;
+        let node = self.place.node;
         let reached = all_reached(&answer.rows);
         let weight = weight_there(self.diagram, self.place);
-        (weight > 0 || reached) && is_free(&self.controlled, answer.decision, node)
+        (weight > 0 || reached) && is_free(self.diagram, answer.decision, node)
     }
 
     /// Whether all answers surely hold at all fractions.
@@ -66,14 +66,12 @@ impl<'a> Question<'a> {
     fn narrow_by_gains(
         &self,
         alloc: Global,
-        relevance: &Relevance,
         held: Held,
         answer: &Answer,
         plans: &DecisionPlans,
         spaces: &mut Workspaces,
     ) -> Result<Held, AllocError>
         requires setting { IsQuestion self.now }
-        requires relevance { IsRelevance self.now.diagram.now.nodes relevance.now }
         requires answer { IsAnswerOf self.now.solved.now answer.now }
         requires planned { ArePlansOfAnswer self.now answer.now plans.now }
         requires ready { AreReadyForAnswer self.now answer.now spaces.old }
@@ -85,7 +83,13 @@ impl<'a> Question<'a> {
         greedy_orders();
         kept_plans_stand();
         let (solved, decision) = (self.solved, answer.decision);
-        let base = base_of(alloc, self.diagram, relevance, &solved.answers, decision)?;
+        let base = base_of(
+            alloc,
+            self.diagram,
+            self.relevance,
+            &solved.answers,
+            decision,
+        )?;
         let nought = row_gains_by(alloc, self.nought, &base, decision, plans, spaces)?;
         let one = row_gains_by(alloc, self.one, &base, decision, plans, spaces)?;
         Ok(narrow_rows(
@@ -102,14 +106,12 @@ impl<'a> Question<'a> {
     fn narrow(
         &self,
         alloc: Global,
-        relevance: &Relevance,
         planner: &Planner,
         held: Held,
         answer: &Answer,
         left: &mut Option<Workspaces>,
     ) -> Result<Held, AllocError>
         requires setting { IsQuestion self.now }
-        requires relevance { IsRelevance self.now.diagram.now.nodes relevance.now }
         requires planner { IsPlanner self.now.diagram.now.nodes planner.now }
         requires room { KeepsPlanCells self.now }
         requires answer { IsAnswerOf self.now.solved.now answer.now }
@@ -121,7 +123,7 @@ impl<'a> Question<'a> {
         let (diagram, decision) = (self.diagram, answer.decision);
         let plans = plan_decision_by(alloc, diagram, planner, decision)?;
         let mut spaces = spaces_for(alloc, diagram, decision, &plans, left.take())?;
-        let held = self.narrow_by_gains(alloc, relevance, held, answer, &plans, &mut spaces)?;
+        let held = self.narrow_by_gains(alloc, held, answer, &plans, &mut spaces)?;
         *left = Some(spaces);
         Ok(held)
     }
@@ -129,33 +131,29 @@ impl<'a> Question<'a> {
     /// The fractions from 0 to 1 at which all answers hold. A decision whose answer surely holds at
     /// all of them has neither plan nor sum; another is planned when its turn comes, and leaves its
     /// workspaces to the next.
-    fn narrow_all(
-        &self,
-        alloc: Global,
-        relevance: &Relevance,
-        planner: &Planner,
-    ) -> Result<Held, AllocError>
+    fn narrow_all(&self, alloc: Global, planner: &Planner) -> Result<Held, AllocError>
         requires setting { IsQuestion self.now }
-        requires relevance { IsRelevance self.now.diagram.now.nodes relevance.now }
         requires planner { IsPlanner self.now.diagram.now.nodes planner.now }
         requires room { KeepsPlanCells self.now }
         ensures range { IfOk result IsRange }
         ensures held { IfOk result (HoldsAllAnswers self.now) }
     {
+        // A decision relies on the table as it would on a rule in its place.
+        walks_to_goals_stand();
         let solved = self.solved;
         let mut held = all_fractions();
         let mut left = None;
         for answer in &solved.answers {
             if !self.stands(answer) {
-                held = self.narrow(alloc, relevance, planner, held, answer, &mut left)?;
+                held = self.narrow(alloc, planner, held, answer, &mut left)?;
             }
         }
         Ok(held)
     }
 
-    /// The fractions from 0 to 1 at which all answers hold, by their decisions' gains. It finds the
-    /// relevance graph, makes what all plans share, and goes over the decisions in the order of
-    /// solving. It plans only those whose answer may not hold at all fractions.
+    /// The fractions from 0 to 1 at which all answers hold, by their decisions' gains. It makes what
+    /// all plans share, and goes over the decisions in the order of solving. It plans only those
+    /// whose answer may not hold at all fractions.
     fn hold_by_gains(&self, alloc: Global) -> Result<Held, AllocError>
         requires { IsQuestion self.now }
         ensures range { IfOk result IsRange }
@@ -164,9 +162,8 @@ impl<'a> Question<'a> {
         // Each plan has a size, and those of a small enough run have room.
         greedy_orders();
         measured_plans_have_room();
-        let relevance = find_relevance(alloc, self.diagram)?;
         let planner = Planner::new(alloc, self.diagram)?;
-        self.narrow_all(alloc, &relevance, &planner)
+        self.narrow_all(alloc, &planner)
     }
 }
 
@@ -175,21 +172,25 @@ impl<'a> Question<'a> {
 pub(crate) fn hold_answers(
     alloc: Global,
     diagram: &Diagram,
+    relevance: &Relevance,
     solved: &Solved,
     place: Place,
     ends: &Ends,
 ) -> Result<Held, AllocError>
-    requires { IsThresholdSetting diagram.now solved.now place ends.now.nought ends.now.one }
+    requires setting { IsThresholdSetting diagram.now solved.now place
+        ends.now.nought ends.now.one }
+    requires relevance { IsRelevance diagram.now.nodes relevance.now }
     ensures range { IfOk result IsRange }
     ensures held { IfOk result (IsHeld diagram.now.nodes (answered diagram.now solved.now) place) }
 {
+    walks_to_goals_stand();
     let question = Question {
         diagram,
+        relevance,
         solved,
         place,
         nought: &ends.nought,
         one: &ends.one,
-        controlled: find_controlled(alloc, diagram, place.node)?,
     };
     if question.all_stand() {
         return Ok(all_fractions());

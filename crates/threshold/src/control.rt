@@ -1,45 +1,21 @@
-//! The diagram in which a chance node is a decision: who relies on it there relies on its table.
+//! Which decisions rely on the table of a chance node, as they would on the rule of a decision in its place.
 
-ghost use Rattle.std.specs.Prelude.{◌≡◌, ◌<◌, ◌↔◌, IfOk, IfSome, IsTrue, is_some, length};
+ghost use Rattle.std.specs.Prelude.{◌≡◌, ◌<◌, ◌↔◌, IsTrue, is_some, length};
 ghost use Rattle.std.specs.List.{list_all};
-ghost use Rattle.maid_model.specs.declared.diagrams.Kind.TheVariants.{Chance};
-ghost use Rattle.maid_model.specs.Nodes.{node_at};
-ghost use Rattle.threshold.specs.Control.{IsControlled, IsFreeOf};
+ghost use Rattle.maid_model.specs.Nodes.{IsDecision};
+ghost use Rattle.threshold.specs.Control.{IsFreeOf};
 
-use diagram_graph::{MakeFault, make_decision};
+use bayes_ball::reach_from_goals;
 use maid_model::{Diagram, Row};
-use relevance_graph::{Relevance, find_relevance};
-use std::alloc::{AllocError, Global};
 
-/// The relevance graph of the diagram in which the node is a decision of the first agent; nothing
-/// where there is no agent, or all rules together would be too large.
-pub(crate) fn find_controlled(
-    alloc: Global,
-    diagram: &Diagram,
-    node: usize,
-) -> Result<Option<Relevance>, AllocError>
-    requires { (node_at diagram.now.nodes node).kind ≡ Chance }
-    ensures { IfOk result (IsControlled diagram.now node) }
+/// Whether the decision does not rely on the node's table. It searches once, from the decision's goals.
+pub(crate) fn is_free(diagram: &Diagram, decision: usize, node: usize) -> bool
+    requires decision { IsDecision diagram.now.nodes decision }
+    requires node { node < length diagram.now.nodes }
+    ensures { IsTrue result ↔ IsFreeOf diagram.now.nodes decision node }
 {
-    if diagram.agents() == 0 {
-        return Ok(None);
-    }
-    match make_decision(alloc, diagram, node, 0) {
-        Ok(controlled) => Ok(Some(find_relevance(alloc, &controlled)?)),
-        Err(MakeFault::TooLarge) => Ok(None),
-        Err(MakeFault::NoMemory) => Err(AllocError),
-    }
-}
-
-/// Whether it is known that the decision does not rely on the node.
-pub(crate) fn is_free(controlled: &Option<Relevance>, decision: usize, node: usize) -> bool
-    requires { IfSome controlled.now (λ known. decision < length known.relied_on) }
-    ensures { IsTrue result ↔ IsFreeOf controlled.now decision node }
-{
-    match controlled {
-        Some(relevance) => !relevance.relies(decision, node),
-        None => false,
-    }
+    let _count = diagram.count();
+    !reach_from_goals(diagram, decision).reached_parent_of(node)
 }
 
 /// Whether no row is marked as never reached.

@@ -5,6 +5,7 @@ ghost use Rattle.first_fault.specs.Answers.{Passes};
 ghost use Rattle.maid_model.specs.declared.diagrams.Kind.TheVariants.{Chance};
 ghost use Rattle.maid_model.specs.Answers.{IsAnswer, IsFraction};
 ghost use Rattle.maid_model.specs.Nodes.{node_at, rows_of, states_of};
+ghost use Rattle.relevance_graph.specs.Relevant.{IsRelevance};
 ghost use Rattle.rule_solver.specs.Faults.{solve_pass};
 ghost use Rattle.threshold.specs.Faults.{span_fault, span_pass};
 ghost use Rattle.threshold.specs.Intervals.{IsOnlySpan, StaysPerfect, TellsNow, TellsSpan};
@@ -16,6 +17,7 @@ use crate::weights::{Place, weight_there};
 use maid_laws::answers_are_best;
 use maid_model::{Diagram, Ratio, Solved};
 use reach_laws::{held_is_perfect, stays_best};
+use relevance_graph::Relevance;
 use std::alloc::Global;
 use whole_num::reduce;
 
@@ -63,6 +65,7 @@ fn fraction(num: u128, den: u128) -> Ratio
 pub fn span(
     alloc: Global,
     diagram: &Diagram,
+    relevance: &Relevance,
     solved: &Solved,
     node: usize,
     state: usize,
@@ -70,6 +73,7 @@ pub fn span(
 ) -> Result<Interval, SpanFault>
     // The solver doesn't refuse the diagram, and answers this.
     requires solves { solve_pass diagram.now None }
+    requires relevance { IsRelevance diagram.now.nodes relevance.now }
     requires answer { IsAnswer diagram.now solved.now }
     requires chance { (node_at diagram.now.nodes node).kind ≡ Chance }
     requires state { state < states_of diagram.now.nodes node }
@@ -88,7 +92,7 @@ pub fn span(
     answers_are_best();
     let place = Place { node, state, row };
     let ends = find_ends(alloc, diagram, place)?;
-    let held = hold_answers(alloc, diagram, solved, place, &ends)?;
+    let held = hold_answers(alloc, diagram, relevance, solved, place, &ends)?;
     Ok(Interval {
         now: fraction(weight_there(diagram, place), diagram.weight_total(node)),
         low: fraction(held.low.num, held.low.den),

@@ -4,11 +4,13 @@
 //! decision a state has a greater gain than the answer's choice.
 //!
 //! ```rust
-//! use rule_solver::solve;
+//! use relevance_graph::find_relevance;
+//! use rule_solver::solve_by_relevance;
 //! use threshold::span;
 //!
-//! let solved = solve(alloc, &diagram)?;
-//! let interval = span(alloc, &diagram, &solved, node, state, row)?;
+//! let relevance = find_relevance(alloc, &diagram)?;
+//! let solved = solve_by_relevance(alloc, &diagram, &relevance)?;
+//! let interval = span(alloc, &diagram, &relevance, &solved, node, state, row)?;
 //! ```
 #![tactic(auto)]
 

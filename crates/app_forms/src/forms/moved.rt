@@ -5,6 +5,7 @@ ghost use Rattle.maid_model.specs.declared.diagrams.Kind.TheVariants.{Chance};
 ghost use Rattle.maid_model.specs.Answers.{IsAnswer};
 ghost use Rattle.maid_model.specs.Names.{NamesFit, labels_of};
 ghost use Rattle.maid_model.specs.Nodes.{node_at, rows_of};
+ghost use Rattle.relevance_graph.specs.Relevant.{IsRelevance};
 ghost use Rattle.threshold.specs.Faults.{OthersWeighNought};
 ghost use Rattle.threshold.specs.Intervals.{TellsNow, TellsSpan};
 ghost use Rattle.app_forms.specs.Reading.{Prints, TellsFor};
@@ -13,12 +14,13 @@ ghost use Rattle.app_forms.specs.Threshold.{IsCellPlace, moved_pass, moving, row
 ghost use Rattle.app_forms.specs.Refusal.{RefusesBy};
 
 use super::chances::{StatePlace, find_state};
-use super::solve::solve_diagram;
+use super::solve::solve_by_graph;
 use crate::refusal::{Refusal, told};
 use crate::{Status, lines};
 use line_pieces::Piece::{Fraction, Number, Quoted, Text};
 use line_pieces::joined;
 use maid_model::{Diagram, Names, Solved};
+use relevance_graph::{Relevance, find_relevance};
 use std::alloc::{AllocError, Global};
 use threshold::{Interval, SpanFault, span};
 
@@ -69,11 +71,13 @@ fn find_interval(
     alloc: Global,
     diagram: &Diagram,
     names: &Names,
+    relevance: &Relevance,
     solved: &Solved,
     place: StatePlace,
     row: usize,
 ) -> Result<Interval, Refusal>
     requires fit { NamesFit diagram.now names.now }
+    requires relevance { IsRelevance diagram.now.nodes relevance.now }
     requires solvable { IsSolvable diagram.now }
     requires answer { IsAnswer diagram.now solved.now }
     requires place { IsCellPlace diagram.now place row }
@@ -85,7 +89,15 @@ fn find_interval(
     ensures only { IfOk result (IsOnlySpanAt diagram.now solved.now place row) }
     ensures perfect { IfOk result (StaysPerfectAt diagram.now solved.now place row) }
 {
-    match span(alloc, diagram, solved, place.node, place.state, row - 1) {
+    match span(
+        alloc,
+        diagram,
+        relevance,
+        solved,
+        place.node,
+        place.state,
+        row - 1,
+    ) {
         Ok(interval) => Ok(interval),
         Err(SpanFault::NoOthers) => unreachable!(),
         Err(SpanFault::WeightBound { node }) => Err(told(
@@ -132,7 +144,7 @@ fn threshold_text<'a>(
 
 /// How far the probability of the state with that label may move in that row of the chance node of
 /// that name, counted from 1, while the answered rules of the diagram stay best. It solves the
-/// diagram, and then takes the time of [`span`].
+/// diagram by a relevance graph that [`span`] takes too, and then takes the time of `span`.
 ///
 /// # Errors
 ///
@@ -153,7 +165,8 @@ pub fn answer(
 {
     let place = find_state(alloc, diagram, names, node, state)?;
     keep_row(alloc, diagram, place, row, node)?;
-    let solved = solve_diagram(alloc, diagram, names)?;
-    let interval = find_interval(alloc, diagram, names, &solved, place, row)?;
+    let relevance = find_relevance(alloc, diagram)?;
+    let solved = solve_by_graph(alloc, diagram, names, &relevance)?;
+    let interval = find_interval(alloc, diagram, names, &relevance, &solved, place, row)?;
     Ok(threshold_text(alloc, names, place, row, &interval)?)
 }

@@ -2,16 +2,15 @@ use Rattle.threshold.proofs.Standing.{all_held}
 use Rattle.threshold.proofs.answers.hold_answers.Goals as goal
 
 pub hold_by_gains-requires : goal.hold_by_gains-requires
-hold_by_gains-requires c = record { setting = c.requires; controlled = c.in_ok-find_controlled.ensures }
+hold_by_gains-requires c = record { setting = c.requires.setting; relevance = c.requires.relevance }
 
 pub returns-then-all_stand-clause-held : goal.returns-then-all_stand-clause-held
-returns-then-all_stand-clause-held c = all_held _ (record { setting = c.requires; controlled = c.in_ok-find_controlled.ensures }) (c.all_stand.ensures.0 c.if-all_stand.true) c.all_fractions.result c.all_fractions.ensures.all
-
-pub find_controlled-requires : goal.find_controlled-requires
-find_controlled-requires c = c.requires.cell.kind
+returns-then-all_stand-clause-held c =
+    let laws = c.walks_to_goals_stand.ensures in
+    all_held laws.control laws.walks _ (record { setting = c.requires.setting; relevance = c.requires.relevance }) (c.all_stand.ensures.0 c.if-all_stand.true) c.all_fractions.result c.all_fractions.ensures.all
 
 pub all_stand-requires : goal.all_stand-requires
-all_stand-requires c = record { setting = record { setting = c.requires; controlled = c.in_ok-find_controlled.ensures } }
+all_stand-requires c = record { setting = record { setting = c.requires.setting; relevance = c.requires.relevance } }
 
 pub returns-then-all_stand-clause-range : goal.returns-then-all_stand-clause-range
 returns-then-all_stand-clause-range c = c.all_fractions.ensures.range

@@ -10,8 +10,8 @@ use Rattle.threshold.proofs.Assembling.{somewhere, span_is}
 use Rattle.threshold.proofs.Tables.{is_place, weight_at_most}
 use Rattle.threshold.proofs.interval.span.Goals as goal
 
-pub hold_answers-requires : goal.hold_answers-requires
-hold_answers-requires c =
+pub hold_answers-requires-clause-setting : goal.hold_answers-requires-clause-setting
+hold_answers-requires-clause-setting c =
     let d = c.args.diagram.now in
     let solved = c.args.solved.now in
     let is = c.in_ok-ends.ensures.diagram in
@@ -27,6 +27,9 @@ hold_answers-requires c =
       small = c.requires.solves.1.1;
       somewhere = somewhere d.nodes (answered d solved) place is.graph is.tables at law.0 law.1 law.2;
     }
+
+pub hold_answers-requires-clause-relevance : goal.hold_answers-requires-clause-relevance
+hold_answers-requires-clause-relevance c = c.requires.relevance
 
 -- the present probability
 pub returns-clause-now : goal.returns-clause-now

@@ -10,9 +10,6 @@ narrow_all-requires-clause-room c =
 pub narrow_all-requires-clause-setting : goal.narrow_all-requires-clause-setting
 narrow_all-requires-clause-setting c = c.requires
 
-pub narrow_all-requires-clause-relevance : goal.narrow_all-requires-clause-relevance
-narrow_all-requires-clause-relevance c = c.in_ok-relevance.ensures
-
 pub narrow_all-requires-clause-planner : goal.narrow_all-requires-clause-planner
 narrow_all-requires-clause-planner c = c.in_ok-planner.ensures.planner
 

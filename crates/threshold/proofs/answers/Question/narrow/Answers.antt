@@ -36,9 +36,6 @@ spaces_for-requires-clause-left c = subst AreLeft (sym c.take.ensures.value) c.r
 pub narrow_by_gains-requires-clause-setting : goal.narrow_by_gains-requires-clause-setting
 narrow_by_gains-requires-clause-setting c = c.requires.setting
 
-pub narrow_by_gains-requires-clause-relevance : goal.narrow_by_gains-requires-clause-relevance
-narrow_by_gains-requires-clause-relevance c = c.requires.relevance
-
 pub narrow_by_gains-requires-clause-answer : goal.narrow_by_gains-requires-clause-answer
 narrow_by_gains-requires-clause-answer c = c.requires.answer
 

@@ -11,6 +11,7 @@ use Rattle.threshold.proofs.answers.Question.narrow_all.Goals.{then-not-stands+i
 pub loop-answer-preserved : goal.loop-answer-preserved
 loop-answer-preserved c =
     let q = c.args.self.now in
+    let laws = c.walks_to_goals_stand.ensures in
     let items : c.deref-answer-items.result.now ≡ q.solved.now.answers = c.deref-answer-items.ensures.value ∙ ap (λ (s : SolvedView). s.answers) c.solved.view_is in
     let within : c.loop-answer.answer-index < length q.solved.now.answers = subst (λ l. c.loop-answer.answer-index < length l) items c.loop-answer-test.true in
     let is = c.answer-item.is ∙ ap (λ l. slice_index_or l c.loop-answer.answer-index c.answer-item.result) items in
@@ -20,7 +21,7 @@ loop-answer-preserved c =
       | then-not-stands+in_ok-held w ↦ record { held = subst So_far (sym w.held-is) (more w.in_ok-held.held w.in_ok-held.ensures.held); left = subst AreLeft (sym w.left-is) w.narrow.ensures.left }
       | else-not-stands w ↦
           let answer = of_list q.diagram.now q.solved.now q.place c.requires.setting.setting.answer.fits c.loop-answer.answer-index c.answer-item.result within is in
-          let stays = narrows_by_nothing q c.requires.setting c.answer-item.result answer (c.stands.ensures.0 w.if-not-stands.false) c.loop-answer.held c.loop-answer.invariant.held.narrows.range in
+          let stays = narrows_by_nothing laws.control laws.walks q c.requires.setting c.answer-item.result answer (c.stands.ensures.0 w.if-not-stands.false) c.loop-answer.held c.loop-answer.invariant.held.narrows.range in
           record { held = subst So_far (sym w.held-is) (more c.loop-answer.held stays); left = subst AreLeft (sym w.left-is) c.loop-answer.invariant.left }
     ]
 
@@ -39,9 +40,6 @@ loop-answer-init c = record {
 
 pub narrow-requires-clause-setting : goal.narrow-requires-clause-setting
 narrow-requires-clause-setting c = c.requires.setting
-
-pub narrow-requires-clause-relevance : goal.narrow-requires-clause-relevance
-narrow-requires-clause-relevance c = c.requires.relevance
 
 pub narrow-requires-clause-planner : goal.narrow-requires-clause-planner
 narrow-requires-clause-planner c = c.requires.planner

@@ -89,7 +89,7 @@ base_of-requires-clause-decision c =
     subst (IsDecision q.diagram.now.nodes) (sym (ap (λ (a : AnswerView). a.decision) c.answer.view_is)) (answer_decides q.diagram.now q.solved.now c.requires.setting.setting.answer.fits c.args.answer.now c.requires.answer)
 
 pub base_of-requires-clause-relevance : goal.base_of-requires-clause-relevance
-base_of-requires-clause-relevance c = c.requires.relevance
+base_of-requires-clause-relevance c = c.requires.setting.relevance
 
 pub base_of-requires-clause-fits : goal.base_of-requires-clause-fits
 base_of-requires-clause-fits c =

@@ -1,4 +1,4 @@
-use Rattle.app_forms.proofs.forms.solve.solve_diagram.Goals as goal
+use Rattle.app_forms.proofs.forms.solve.solve_by_graph.Goals as goal
 
 -- what the solver finds refuses nothing
 pub returns-in-Ok-clause-solvable : goal.returns-in-Ok-clause-solvable
