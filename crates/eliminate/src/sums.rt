@@ -119,7 +119,8 @@ fn multiply_live<C: Cell>(
     requires product { CanMultiplyLive C.ring diagram.now work.old places.now slots.now }
     requires small { left.cells ≤ MOST_PLAN_CELLS }
     requires room { left.cells ≤ work.old.spare }
-    ensures some { MultipliesIfSome C.ring diagram.now work.old work.new places.now slots.now result }
+    ensures some { MultipliesIfSome C.ring diagram.now
+        work.old work.new places.now slots.now result }
     ensures none { (result ≡ None) ↔ AreLiveTooMuch diagram.now places.now slots.now left }
     ensures grows { Grows C.ring diagram.now.nodes work.old work.new }
 {

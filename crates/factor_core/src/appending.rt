@@ -30,7 +30,8 @@ pub fn join_behind<C: Cell>(
     requires some { 0 < length slots.now }
     requires live { All (IsLiveSlot diagram.now.nodes (take slot.now.start all.old)) slots.now }
     requires hold { All (λ s. IsIn s.scope node) slots.now }
-    requires fits { JoinOfFits C.ring diagram.now.nodes node slots.now (space all.old slot.now.start) }
+    requires fits { JoinOfFits C.ring diagram.now.nodes node slots.now
+        (space all.old slot.now.start) }
     requires scope { (v : ℕ) → holds slot.now.scope v ≡ united_but slots.now node v }
     requires size { slot.now.len ≡ size_of counts.now slot.now.scope }
     requires within { slot.now.start + slot.now.len ≤ length all.old }
@@ -52,7 +53,8 @@ pub fn product_behind<C: Cell>(
     requires short { length all.old ≤ MOST_PLAN_CELLS }
     requires few { length slots.now ≤ 256 }
     requires live { All (IsLiveSlot diagram.now.nodes (take slot.now.start all.old)) slots.now }
-    requires fits { ProductOfFits C.ring diagram.now.nodes slots.now (space all.old slot.now.start) }
+    requires fits { ProductOfFits C.ring diagram.now.nodes slots.now
+        (space all.old slot.now.start) }
     requires scope { (v : ℕ) → holds slot.now.scope v ≡ united slots.now v }
     requires size { slot.now.len ≡ size_of counts.now slot.now.scope }
     requires within { slot.now.start + slot.now.len ≤ length all.old }

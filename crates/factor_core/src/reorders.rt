@@ -59,7 +59,8 @@ pub fn restrict_behind<C: Cell>(
     requires live { IsLiveSlot diagram.now.nodes (take target.now.start all.old) slot.now }
     requires hold { IsIn slot.now.scope node }
     requires state { state < states_of diagram.now.nodes node }
-    requires scope { (v : ℕ) → holds target.now.scope v ≡ (holds slot.now.scope v && not (v == node)) }
+    requires scope { (v : ℕ) → holds target.now.scope v
+        ≡ (holds slot.now.scope v && not (v == node)) }
     requires size { target.now.len ≡ size_of (counts_of diagram.now.nodes) target.now.scope }
     requires within { target.now.start + target.now.len ≤ length all.old }
     ensures { WritesState C.ring diagram.now node state slot.now all.old all.new target.now }

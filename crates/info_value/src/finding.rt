@@ -29,7 +29,8 @@ pub(crate) fn find_seen(
     requires decision { IsDecision baseline.now.diagram.now.nodes to }
     requires arc { Arc baseline.now.diagram.now.nodes from to }
     requires needed { IsTrue needed ↔ IsRequisite baseline.now.diagram.now.nodes to from }
-    ensures found { IfOk result (IsFoundOfSeen baseline.now.diagram.now baseline.now.agent from to) }
+    ensures found { IfOk result
+        (IsFoundOfSeen baseline.now.diagram.now baseline.now.agent from to) }
     ensures shared { OnOk result (IsShared baseline.now.diagram.now shared.new) }
 {
     arc_removed();

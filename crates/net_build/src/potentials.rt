@@ -152,7 +152,8 @@ fn enter_potentials<'a, 't>(
     requires heads { length heads.now ≡ length names.now }
     requires names { AllPairs (λ name later. name ≢ later) names.now }
     requires no_parents { numbers_of_lists parents.old.items ≡ replicate (length names.now) [] }
-    requires no_potentials { borrowed_trees potentials.old.items ≡ replicate (length names.now) None }
+    requires no_potentials { borrowed_trees potentials.old.items
+        ≡ replicate (length names.now) None }
     ensures rows { PassesPotentials text.now names.now heads.now syntax.now result }
     ensures links { OnOk result (AreLinksOf text.now names.now heads.now syntax.now
         parents.new potentials.new.items) }
