@@ -1,4 +1,5 @@
--- Bytes come to one status: they stand for one diagram or have a fault, and each stage is clear or refuses with its status, never both.
+-- Bytes come to one status: they stand for one diagram or have a fault, and each stage is clear or
+-- refuses with its status, never both.
 use Rattle.std.proofs.Common.{◌≡◌, inl, inr, ℕ, ◌-◌, List, None, ap, subst, sym, ◌∙◌, arith, Err}
 use Rattle.first_fault.specs.Passes.{each}
 use Rattle.first_fault.proofs.Ends.{staged_alike}

@@ -1,4 +1,5 @@
--- What refuses the question how far a probability may move: the weight bound of the changed diagrams, and the stages one behind another.
+-- What refuses the question how far a probability may move: the weight bound of the changed
+-- diagrams, and the stages one behind another.
 use Rattle.std.proofs.Common.{◌≡◌, ◌<◌, ◌-◌, ◌/◌, ◌*ℤ◌, ℕ, ℤ, pos, map, List, [], ◌∷◌, ◌++◌, length, inl, inr, refl, Option, None, Some, IfSome, Ok, sym, subst}
 use Rattle.std.proofs.lemmas.List.{length-set}
 use Rattle.first_fault.specs.Answers.{IsFoundIfAny}

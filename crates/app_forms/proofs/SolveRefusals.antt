@@ -1,4 +1,5 @@
--- Which stage of solving finds a fault, that those before it find nothing, and that a place in a scope is a node.
+-- Which stage of solving finds a fault, that those before it find nothing, and that a place in a
+-- scope is a node.
 use Rattle.std.proofs.Common.{◌≡◌, ◌<◌, inl, inr, ℕ, List, ◌∷◌, length, Option, None, Some, IfSome, sym, subst}
 use Rattle.maid_model.specs.Bounds.{bound_factor}
 use Rattle.maid_model.specs.Nodes.{numbers_of}

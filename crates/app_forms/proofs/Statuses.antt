@@ -1,4 +1,5 @@
--- With which statuses a request ends: bytes are refused with one of bytes, and a text comes with that of a run that is done or of a verdict.
+-- With which statuses a request ends: bytes are refused with one of bytes, and a text comes with
+-- that of a run that is done or of a verdict.
 use Rattle.std.proofs.Common.{◌≡◌, ◌⊎◌, inl, inr, ℕ, List, Some, Ok, Err, sym, subst}
 use Rattle.first_fault.proofs.Kept.{each_only}
 use Rattle.maid_io.specs.Device.{File}

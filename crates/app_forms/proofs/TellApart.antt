@@ -1,4 +1,5 @@
--- The names in a text are such as a report tells apart: they differ, and no byte of theirs ends a word or a line.
+-- The names in a text are such as a report tells apart: they differ, and no byte of theirs ends a
+-- word or a line.
 use Rattle.std.proofs.Common.{◌≡◌, ◌≢◌, ℕ, true, List, [], ◌∷◌, length, refl, sym, ap, ◌∙◌}
 use Rattle.std.specs.Prelude.{nat_le}
 use Rattle.std.specs.List.{list_all}

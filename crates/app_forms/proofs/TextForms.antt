@@ -1,4 +1,5 @@
--- A form with one text: the text's fault comes first, and what comes of the diagram then comes of the text.
+-- A form with one text: the text's fault comes first, and what comes of the diagram then comes of
+-- the text.
 use Rattle.std.proofs.Common.{◌≡◌, ℕ, List, [], ◌∷◌, ◌++◌, Result, Err, refl}
 use Rattle.first_fault.specs.Outcomes.{refusals as refusals_of}
 use Rattle.maid_model.specs.Names.{NamesView}

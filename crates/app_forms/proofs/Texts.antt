@@ -1,4 +1,5 @@
--- A file's bytes stand for a diagram or have a fault: tokens or a fault, of the tokens a tree or a fault, and of the tree a diagram or a fault.
+-- A file's bytes stand for a diagram or have a fault: tokens or a fault, of the tokens a tree or a
+-- fault, and of the tree a diagram or a fault.
 use Rattle.std.proofs.Common.{inl, inr, ℕ, List, refl}
 use Rattle.first_fault.specs.Properties.{IsCovered}
 use Rattle.net_lexer.specs.Laws as lexing

@@ -1,4 +1,5 @@
--- A diagram without arcs into decisions can be printed where the whole can, and the removed arcs have names.
+-- A diagram without arcs into decisions can be printed where the whole can, and the removed arcs
+-- have names.
 use Rattle.std.proofs.Common.{◌≡◌, ◌≢◌, ◌∙◌, ℕ, zero, suc, ◌*◌, ◌<◌, ◌^◌, Bool, true, false, cond, not, List, [], ◌∷◌, ◌++◌, All, length, map, filter, get_or, codes, refl, sym, ap, subst, nat_abs, pos, slice_index_or}
 use Rattle.std.specs.Int.{◌∣◌}
 use Rattle.std.specs.List.{flat_map, list_all}

@@ -43,10 +43,10 @@ abbrev pub FindsNothing : Request → List ℕ → Type 0
 FindsNothing request bytes =
     each (λ s. Finds s (file_name request, bytes)) (task_of request).stages None
 
--- What a diagram and its names must keep so that its text comes: `solve` and `demo` ask for an order
--- of solving, the weight bound and a run within the limits, `info` and `control` ask for the agent
--- too, `pure`, `update`, `given` and `threshold` for what their own stages look for, `check` for the
--- weight bound and few leaves, and the others for nothing. What is judged is no diagram.
+-- What a diagram and its names must keep so that its text comes: `solve` and `demo` ask for an
+-- order of solving, the weight bound and a run within the limits, `info` and `control` ask for the
+-- agent too, `pure`, `update`, `given` and `threshold` for what their own stages look for, `check`
+-- for the weight bound and few leaves, and the others for nothing. What is judged is no diagram.
 abbrev pub CanAnswer : Request → DiagramView → NamesView → Type 0
 CanAnswer (solve file) d names = IsSolvable d
 CanAnswer (check file report) d names = CanBeChecked d

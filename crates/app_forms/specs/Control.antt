@@ -1,4 +1,5 @@
--- What `control` writes: what control of chance nodes is worth to an agent, and its incentives there.
+-- What `control` writes: what control of chance nodes is worth to an agent, and its incentives
+-- there.
 use Rattle.std.specs.Prelude.{◌≡◌, ℕ, List, [], ◌∷◌, ◌++◌, All, codes, map, if◌then◌else◌}
 use Rattle.std.specs.List.{flat_map}
 use Rattle.control_incentive.specs.Lines.{IsControlLine, IsTrimmedAlone, TellsControl, chance_nodes, line_node}

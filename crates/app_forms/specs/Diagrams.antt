@@ -17,7 +17,8 @@ pub record IsTreeOf (bytes : List ℕ) (tree : List BlockTree) : Type 0 where
   pub is_tokens : IsTokens bytes tokens
   pub spells : Spells tree (lexemes bytes tokens)
 
--- the bytes stand for a tree in which no pass finds a fault, and the tree for the diagram and the names
+-- the bytes stand for a tree in which no pass finds a fault, and the tree for the diagram and the
+-- names
 pub record IsDiagramOf (bytes : List ℕ) (d : DiagramView) (names : NamesView) : Type 0 where
   pub tree : List BlockTree
   pub is_tree : IsTreeOf bytes tree

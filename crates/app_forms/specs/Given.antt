@@ -62,8 +62,8 @@ given_front names place order =
     ++ quoted (label_of names place.node place.state))
     ++ names_line (codes "order:") names order
 
--- these, each decision with the rows in which it sees the evidence, and each agent's conditional expected
--- utility
+-- these, each decision with the rows in which it sees the evidence, and each agent's conditional
+-- expected utility
 abbrev pub given_text : DiagramView → NamesView → StatePlace → SolvedView → List Ratio → List ℕ
 given_text d names place solved gains =
     given_front names place solved.order
@@ -74,9 +74,9 @@ given_text d names place solved gains =
 abbrev pub conditioned_text : NamesView → StatePlace → Conditioned → List ℕ
 conditioned_text names place c = given_text c.diagram names place c.solved c.gains.items
 
--- The answer of the diagram in which every decision sees the node, and what it is worth where the node
--- has the state. The profile is subgame-perfect, and none is worth more, where the node has the state,
--- to an agent that owns all decisions.
+-- The answer of the diagram in which every decision sees the node, and what it is worth where the
+-- node has the state. The profile is subgame-perfect, and none is worth more, where the node has
+-- the state, to an agent that owns all decisions.
 pub record HasGiven
     (node state : List ℕ) (d : DiagramView) (names : NamesView) (printed : List ℕ) : Type 0 where
   pub place : StatePlace

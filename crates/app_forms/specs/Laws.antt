@@ -21,8 +21,8 @@ ClearOrRefused =
     (request : Request) (bytes : List ℕ) (refusal : Refused) → FindsNothing request bytes
     → Answers request bytes (Err refusal) → ⊥
 
--- a status with which bytes are refused: none of the words, of reading, of writing, of memory or of a
--- text that is written
+-- a status with which bytes are refused: none of the words, of reading, of writing, of memory or of
+-- a text that is written
 abbrev pub IsOfBytes : Status → Type 0
 IsOfBytes Done = ⊥
 IsOfBytes Usage = ⊥

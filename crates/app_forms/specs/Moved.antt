@@ -22,7 +22,8 @@ pub record TellsNoOthers (d : DiagramView) (x state row : ℕ) (name told : List
   pub nought : OthersWeighNought d.nodes x state (row - 1)
   pub says : told ≡ no_other_state_line name
 
--- the common multiple is within the range of totals, and with it in the place of x's total the weight bound is kept
+-- the common multiple is within the range of totals, and with it in the place of x's total the
+-- weight bound is kept
 abbrev pub KeepsMovedBound : DiagramView → ℕ → ℕ → ℕ → Type 0
 KeepsMovedBound d x state row =
     over (IsCommonMultiple d.nodes x state (row - 1)) (total_pass d x) None

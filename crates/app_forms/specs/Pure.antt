@@ -15,15 +15,16 @@ abbrev pub pure_text : DiagramView → NamesView → PureView → List ℕ
 pure_text d names found = line (codes "maidsolve pure 1")
     ++ choice_lines d.nodes names found.answers ++ gain_lines names 0 found.gains
 
--- the first pure equilibrium in text order, from which no agent gains by its own rules, pure or mixed
+-- the first pure equilibrium in text order, from which no agent gains by its own rules, pure or
+-- mixed
 pub record HasPure (d : DiagramView) (names : NamesView) (printed : List ℕ) : Type 0 where
   pub found : PureView
   pub is_found : IsPureFound d found
   pub stable : IsStable d found
   pub is : printed ≡ pure_text d names found
 
--- the diagram keeps the weight bound in each scope, its profiles and worlds can be listed, and one of the profiles is an
--- equilibrium
+-- the diagram keeps the weight bound in each scope, its profiles and worlds can be listed, and one
+-- of the profiles is an equilibrium
 pub record HasFirstPure (d : DiagramView) : Type 0 where
   pub bound : KeepsScopedBounds d
   pub small : IsSmall d

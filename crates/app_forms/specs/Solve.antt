@@ -14,8 +14,8 @@ use Rattle.app_forms.specs.Tasks.{Task, text_task}
 
 -- The answer of the diagram, by definition and by what holds of it: its profile is subgame-perfect;
 -- for an agent that owns all decisions no profile is worth more, and its printed fraction is the
--- optimum; and in a row of a live decision that the plan reaches the printed worth is that under the
--- plan.
+-- optimum; and in a row of a live decision that the plan reaches the printed worth is that under
+-- the plan.
 pub record IsSolution (d : DiagramView) (solved : SolvedView) : Type 0 where
   pub is_answer : IsAnswer d solved
   pub subgame_perfect : IsSubgamePerfect d.nodes (answered d solved)

@@ -162,7 +162,8 @@ pub record TellsBadLine
   pub is_bad : IsBadLine d names file.1 at
   pub says : told ≡ bad_line_line file.0 at
 
--- a stage finds nothing where it is clear, and else refuses with its status and a line that says why
+-- a stage finds nothing where it is clear, and else refuses with its status and a line that says
+-- why
 abbrev pub stage : Status → Type 0 → (List ℕ → Type 0) → Pass Refused
 stage status IsClear SaysWhy None = IsClear
 stage status IsClear SaysWhy (Some refusal) = (refusal.status ≡ status) × SaysWhy refusal.told

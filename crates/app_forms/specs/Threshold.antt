@@ -26,8 +26,8 @@ threshold_text names x state row interval = line (codes "maidsolve threshold 1")
     ++ quoted (label_of names x state) ++ codes " = " ++ ratio_text interval.now
     ++ codes " from " ++ ratio_text interval.low ++ codes " to " ++ ratio_text interval.high)
 
--- The exact closed interval in which the answer's rules hold; inside they are subgame-perfect in the
--- changed diagram.
+-- The exact closed interval in which the answer's rules hold; inside they are subgame-perfect in
+-- the changed diagram.
 pub record HasThreshold
     (node : List ℕ) (row : ℕ) (state : List ℕ) (d : DiagramView) (names : NamesView)
     (printed : List ℕ) : Type 0 where
@@ -42,8 +42,8 @@ pub record HasThreshold
   pub subgame_perfect : StaysPerfect d solved place.node place.state (row - 1) interval
   pub is : printed ≡ threshold_text names place.node place.state row interval
 
--- the diagram has the state and the row with another state of weight, the solver answers it, and the
--- changed diagrams keep the weight bound
+-- the diagram has the state and the row with another state of weight, the solver answers it, and
+-- the changed diagrams keep the weight bound
 pub record CanBeMoved
     (node : List ℕ) (row : ℕ) (state : List ℕ) (d : DiagramView) (names : NamesView) : Type 0 where
   pub place : StatePlace
@@ -58,7 +58,8 @@ abbrev pub place_stages : List ℕ → ℕ → List ℕ → List Stage
 place_stages node row state = text_fault ∷ name_stages node state ++ unknown_row node row state
     ∷ no_others node row state ∷ []
 
--- these, then the solver's stages, then the weight bound of the changed diagrams, and else the interval
+-- these, then the solver's stages, then the weight bound of the changed diagrams, and else the
+-- interval
 abbrev pub moving : List ℕ → ℕ → List ℕ → Task
 moving node row state = text_task
     (place_stages node row state ++ solver_stages ++ moved_bound node row state ∷ [])

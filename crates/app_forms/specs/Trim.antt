@@ -1,4 +1,5 @@
--- What `trim` writes: the arcs that were removed, and then the diagram without them, for which the text stands.
+-- What `trim` writes: the arcs that were removed, and then the diagram without them, for which the
+-- text stands.
 use Rattle.std.specs.Prelude.{◌≡◌, ℕ, List, [], ◌∷◌, ◌++◌}
 use Rattle.app_lines.specs.Removed.{removed_lines}
 use Rattle.maid_model.specs.Names.{NamesView}

@@ -18,8 +18,8 @@ update_text d names updated =
     line (codes "maidsolve update 1") ++ line (codes "rounds " ++ decimal updated.rounds)
     ++ choice_lines d.nodes names updated.answers ++ gain_lines names 0 updated.gains
 
--- The choices before the first round that does not raise. No other rule of any one decision is worth more, and each
--- round that raises makes the expected utility greater.
+-- The choices before the first round that does not raise. No other rule of any one decision is
+-- worth more, and each round that raises makes the expected utility greater.
 pub record HasUpdate (d : DiagramView) (names : NamesView) (printed : List ℕ) : Type 0 where
   pub updated : UpdatedView
   pub is_update : IsUpdateOf d updated
@@ -27,8 +27,8 @@ pub record HasUpdate (d : DiagramView) (names : NamesView) (printed : List ℕ) 
   pub rises : RoundsRaise d.nodes
   pub is : printed ≡ update_text d names updated
 
--- the diagram's decisions have one owner, it keeps the weight bound in each scope, updating keeps the limits of cells
--- and work, and one of the rounds does not raise
+-- the diagram's decisions have one owner, it keeps the weight bound in each scope, updating keeps
+-- the limits of cells and work, and one of the rounds does not raise
 pub record CanBeUpdated (d : DiagramView) : Type 0 where
   pub one_owner : HasTwoOwners d.nodes → ⊥
   pub bound : KeepsScopedBounds d

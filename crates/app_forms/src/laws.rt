@@ -21,8 +21,8 @@ pub fn one_status()
     verdicts_are_one();
 }
 
-/// A request's bytes are refused with a status of bytes, and what is written for them has that of a run that is done or
-/// of a verdict.
+/// A request's bytes are refused with a status of bytes, and what is written for them has that of a
+/// run that is done or of a verdict.
 pub fn outcomes_have_their_statuses()
     ensures refused { RefusedAsBytes }
     ensures written { WrittenAsText }

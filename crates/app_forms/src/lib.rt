@@ -1,4 +1,5 @@
-//! What each form of the command line answers: words to a form, and a file's bytes to the form's text or to a refusal.
+//! What each form of the command line answers: words to a form, and a file's bytes to the form's
+//! text or to a refusal.
 //!
 //! ```rust
 //! use app_forms::{Form, form_of};
@@ -9,8 +10,9 @@
 //! let text = form.text(alloc, bytes)?;
 //! ```
 //!
-//! All of it is pure: no form reads a file or writes one. `check`, the form with two files, is answered in two steps
-//! ([`check::examine`], [`check::judge`]), since its second file is asked for only where nothing is found in the first.
+//! All of it is pure: no form reads a file or writes one. `check`, the form with two files, is
+//! answered in two steps ([`check::examine`], [`check::judge`]), since its second file is asked for
+//! only where nothing is found in the first.
 #![tactic(auto)]
 
 mod fault_words;

@@ -119,7 +119,8 @@ pub fn too_many_leaves(alloc: Global, leaves: u128) -> Result<Vec<u8>, AllocErro
     )
 }
 
-/// The line of a diagram that passes the weight bound: the node at which it does, or that its utilities do.
+/// The line of a diagram that passes the weight bound: the node at which it does, or that its
+/// utilities do.
 pub fn weight_bound(
     alloc: Global,
     names: &Names,
@@ -149,8 +150,8 @@ pub fn bad_line(alloc: Global, name: &[u8], at: usize) -> Result<Vec<u8>, AllocE
     )
 }
 
-/// The line of a fault of the file's bytes: the file, the line and the column of the place, and what is wrong there. A
-/// place behind the bytes is their end.
+/// The line of a fault of the file's bytes: the file, the line and the column of the place, and
+/// what is wrong there. A place behind the bytes is their end.
 pub fn fault<'a>(
     alloc: Global,
     name: &'a [u8],

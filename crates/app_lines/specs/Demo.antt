@@ -19,8 +19,8 @@ worth_block i = codes "utility U" ++ decimal i ++ codes " { agent = \"agent\"; }
 abbrev pub stage_blocks : ℕ → List ℕ
 stage_blocks i = state_block i ++ choice_block i ++ worth_block i
 
--- a later state comes of the state and the decision before it: to stay keeps it, and to flip makes s1 and s2 equally
--- likely
+-- a later state comes of the state and the decision before it: to stay keeps it, and to flip makes
+-- s1 and s2 equally likely
 abbrev pub later_potential : ℕ → List ℕ
 later_potential i = codes "potential (X" ++ decimal i ++ codes " | X" ++ decimal (i - 1)
     ++ codes " D" ++ decimal (i - 1) ++ codes ") { data = (1 0 1 1 0 1 1 1); }\n"

@@ -1,4 +1,5 @@
--- What the steps of printing append: each says what stands behind the text once its call has ended well.
+-- What the steps of printing append: each says what stands behind the text once its call has ended
+-- well.
 use Rattle.std.specs.Prelude.{ℕ, Result}
 use Rattle.std.specs.Global.{Vec}
 use Rattle.line_pieces.specs.Pushed.{PushAppends}

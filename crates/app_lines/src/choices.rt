@@ -53,9 +53,9 @@ fn push_choices(
     Ok(())
 }
 
-/// Each answer in turn: the line that names its decision, whose it is and what it sees, and then for each row the
-/// parents' states and the choice, as in a report, but without what the row is worth. Its cost is that of the text it
-/// makes.
+/// Each answer in turn: the line that names its decision, whose it is and what it sees, and then
+/// for each row the parents' states and the choice, as in a report, but without what the row is
+/// worth. Its cost is that of the text it makes.
 pub fn choice_lines(
     alloc: Global,
     diagram: &Diagram,

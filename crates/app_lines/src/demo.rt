@@ -1,5 +1,5 @@
-//! The text of the generated diagram: stages of a state, a decision and a utility, each state but the first behind the
-//! state and the decision before it.
+//! The text of the generated diagram: stages of a state, a decision and a utility, each state but
+//! the first behind the state and the decision before it.
 
 ghost use Rattle.std.specs.Prelude.{◌≡◌, ◌<◌, IfOk};
 ghost use Rattle.app_lines.specs.Demo.{state_block, choice_block, worth_block, stage_blocks, later_potential, state_potential, choice_potential, worth_potential, stage_potentials, demo_text, blocks_of, potentials_of};
@@ -144,9 +144,10 @@ fn push_potentials(out: &mut Vec<u8>, stages: usize) -> Result<(), AllocError>
     Ok(())
 }
 
-/// The text of the generated diagram of `k` stages, in the form in which diagrams are printed: the node blocks of each
-/// stage, and then the potentials of each. In state `s1` a stage is worth 1, and from `s2` a decision that flips leads to
-/// either state. The program takes 1 to 60 stages. Its cost is that of the text it makes.
+/// The text of the generated diagram of `k` stages, in the form in which diagrams are printed: the
+/// node blocks of each stage, and then the potentials of each. In state `s1` a stage is worth 1,
+/// and from `s2` a decision that flips leads to either state. The program takes 1 to 60 stages. Its
+/// cost is that of the text it makes.
 pub fn demo_text(alloc: Global, k: usize) -> Result<Vec<u8>, AllocError>
     ensures { IfOk result (λ text. text.items ≡ demo_text k) }
 {

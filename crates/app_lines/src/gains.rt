@@ -7,8 +7,8 @@ use maid_model::{Names, Ratio};
 use report_text::push_gains;
 use std::alloc::{AllocError, Global};
 
-/// For each agent the line `agent AGENT = VALUE`, as in a report: its quoted name, and its fraction as the pair that it
-/// is, so a reduced fraction is printed reduced.
+/// For each agent the line `agent AGENT = VALUE`, as in a report: its quoted name, and its fraction
+/// as the pair that it is, so a reduced fraction is printed reduced.
 pub fn gain_lines(alloc: Global, names: &Names, gains: &[Ratio]) -> Result<Vec<u8>, AllocError>
     requires { length gains.now ≡ length names.now.agents }
     ensures { IfOk result (λ text. text.items ≡ gain_lines names.now 0 gains.now) }

@@ -1,5 +1,6 @@
-//! The lines that a run tells beside its report: where a place of a text stands, lines of nodes' names, of removed arcs,
-//! of choices and of agents' fractions; and the text of a generated diagram.
+//! The lines that a run tells beside its report: where a place of a text stands, lines of nodes'
+//! names, of removed arcs, of choices and of agents' fractions; and the text of a generated
+//! diagram.
 #![tactic(auto)]
 
 mod choices;

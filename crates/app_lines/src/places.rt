@@ -3,8 +3,8 @@
 ghost use Rattle.std.specs.Prelude.{◌≡◌, ◌≤◌, length};
 ghost use Rattle.app_lines.specs.Places.{line_at, column_at};
 
-/// The line and the column of a place of the text, both counted in bytes and from 1. One pass over the text up to the
-/// place; it takes no memory.
+/// The line and the column of a place of the text, both counted in bytes and from 1. One pass over
+/// the text up to the place; it takes no memory.
 pub fn place(text: &[u8], at: usize) -> (usize, usize)
     requires { at ≤ length text.now }
     ensures line { result.0 ≡ line_at text.now at }

@@ -27,8 +27,8 @@ fn push_removed(out: &mut Vec<u8>, names: &Names, from: usize, to: usize) -> Res
     )
 }
 
-/// For each arc, which leads from its first node to its second, the line `% removed FROM -> TO`, in their order. A text
-/// of a diagram reads over such lines: they are comments.
+/// For each arc, which leads from its first node to its second, the line `% removed FROM -> TO`, in
+/// their order. A text of a diagram reads over such lines: they are comments.
 pub fn removed_lines(
     alloc: Global,
     names: &Names,

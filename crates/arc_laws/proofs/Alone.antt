@@ -1,4 +1,5 @@
--- The diagram in which only one agent decides: the others' decisions are chance nodes that take the answered choices.
+-- The diagram in which only one agent decides: the others' decisions are chance nodes that take the
+-- answered choices.
 use Rattle.std.proofs.Common.{◌≡◌, ◌≢◌, ◌⊎◌, ◌∙◌, ℕ, ◌+◌, ◌*◌, ◌<◌, ◌≤◌, Bool, true, false, cond, ◌&&◌, eqb, flat_map, List, [], map, length, slice_index, slice_index_or, refl, sym, ap, subst, inl, inr, ℤ, pos, ◌*ℤ◌, ◌≤ℤ◌, ◌^◌, nat_abs, arith, ◌==◌, ◌∷◌}
 use Rattle.std.proofs.lemmas.List.{length-map}
 use Rattle.std.proofs.lemmas.List.FromFn.{get_or-map-range_with_len}

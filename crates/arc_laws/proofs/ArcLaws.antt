@@ -1,4 +1,5 @@
--- An arc into a decision is removed: rules without it can be lifted, and where it is not requisite a best pure rule needs it not.
+-- An arc into a decision is removed: rules without it can be lifted, and where it is not requisite
+-- a best pure rule needs it not.
 use Rattle.std.proofs.Common.{◌≡◌, ◌≢◌, ◌⊎◌, ◌∙◌, ℕ, zero, suc, ◌+◌, ◌*◌, ◌<◌, cond, not, eqb, filter, List, map, slice_index, slice_index_or, refl, sym, ap, subst, inl, inr, ℤ, pos, negsuc, ◌*ℤ◌, ◌≤ℤ◌, ◌<ℤ◌, arith}
 use Rattle.std.proofs.lemmas.Int.{ints}
 use Rattle.std.proofs.Math.Decide.{ℕ_discrete, dec_lt}

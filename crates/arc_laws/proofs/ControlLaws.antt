@@ -1,4 +1,5 @@
--- Control of a chance node never lowers what an agent can get, and leaves it as it is where no utility of the agent descends from the node in the trimmed diagram.
+-- Control of a chance node never lowers what an agent can get, and leaves it as it is where no
+-- utility of the agent descends from the node in the trimmed diagram.
 use Rattle.std.proofs.Common.{◌≡◌, ◌∙◌, ℕ, ◌<◌, cond, eqb, List, map, length, refl, sym, ap, subst, ℤ, pos, ◌*ℤ◌, ◌≤ℤ◌, arith, nat_abs}
 use Rattle.std.proofs.lemmas.Int.{ints}
 use Rattle.std.proofs.Math.Decide.{ℕ_discrete}

@@ -1,4 +1,6 @@
--- A parent that a decision does not need: given the decision and its other parents, sums over worlds are a factor that looks at the parent and not at the decision, times one that looks at the decision and not at the parent.
+-- A parent that a decision does not need: given the decision and its other parents, sums over
+-- worlds are a factor that looks at the parent and not at the decision, times one that looks at the
+-- decision and not at the parent.
 use Rattle.std.proofs.Common.{◌≡◌, ◌≢◌, ◌⊎◌, ◌↔◌, ◌∙◌, ℕ, ◌<◌, Bool, true, false, cond, not, eqb, filter, List, [], ◌∷◌, length, refl, sym, ap, subst, inl, inr, ℤ, pos, ◌*ℤ◌, arith}
 use Rattle.std.proofs.Math.Path.{fun_ext}
 use Rattle.std.proofs.Math.Decide.{ℕ_discrete, dec_lt}

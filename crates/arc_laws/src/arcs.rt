@@ -2,8 +2,8 @@
 
 ghost use Rattle.arc_laws.specs.Arcs.{KeptWithoutArc, LessWithoutArc, AsMuchWithoutArc, SameWithoutArc, SameWhenTrimmed};
 
-/// The removal of an arc into a decision: no agent can get more, and where the arc is not requisite the decision's
-/// agent can get as much. So one agent's optimum stays the same.
+/// The removal of an arc into a decision: no agent can get more, and where the arc is not requisite
+/// the decision's agent can get as much. So one agent's optimum stays the same.
 pub fn arc_removed()
     ensures kept { KeptWithoutArc }
     ensures less { LessWithoutArc }

@@ -7,8 +7,8 @@ pub fn rule_unreached()
     ensures law { UnreachedRule }
 {}
 
-/// Control of a chance node never lowers an agent's optimum, and leaves it as it is where no utility of the agent
-/// descends from the node in the trimmed diagram.
+/// Control of a chance node never lowers an agent's optimum, and leaves it as it is where no
+/// utility of the agent descends from the node in the trimmed diagram.
 pub fn controlled()
     ensures kept { KeptAsDecision }
     ensures more { MoreWithControl }

@@ -1,5 +1,5 @@
-//! Laws of arcs into decisions and of control over chance nodes, and of what they are worth: each is the contract of a
-//! function without parameters and with an empty body.
+//! Laws of arcs into decisions and of control over chance nodes, and of what they are worth: each
+//! is the contract of a function without parameters and with an empty body.
 #![tactic(auto)]
 
 mod arcs;

@@ -14,14 +14,14 @@ pub fn arc_value()
     ensures unseen { UnseenValue }
 {}
 
-/// Control is not worth less than nothing, and nothing where no utility of the agent descends from the node in the
-/// trimmed diagram.
+/// Control is not worth less than nothing, and nothing where no utility of the agent descends from
+/// the node in the trimmed diagram.
 pub fn control_value()
     ensures law { ControlValue }
 {}
 
-/// In the diagram in which only the agent decides and the others take the answered choices, the agent's optimum is what
-/// the answer gives it.
+/// In the diagram in which only the agent decides and the others take the answered choices, the
+/// agent's optimum is what the answer gives it.
 pub fn answer_is_optimum()
     ensures diagram { OneAgentDiagram }
     ensures optimum { AnswerIsOptimum }

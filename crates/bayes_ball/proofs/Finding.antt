@@ -1,4 +1,5 @@
--- A search whose goals are found on the way: each mark tells of a walk to a goal, and at the end none is missing.
+-- A search whose goals are found on the way: each mark tells of a walk to a goal, and at the end
+-- none is missing.
 use Rattle.std.proofs.Common.{◌≡◌, ◌≢◌, ℕ, ◌+◌, ◌<◌, ◌||◌, Bool, true, false, List, length, ◌⊎◌, ◌↔◌, inl, inr, refl, subst, sym, ap, ◌∙◌, arith}
 use Rattle.std.specs.Prelude.{MatchBool}
 use Rattle.std.proofs.lemmas.Bool.{false≢true, or_parts}
@@ -83,8 +84,8 @@ none_unmarked set down up marked left false either rest first = (
 )
 
 -- ---- the search
--- the descendants of d that were found, d among them, and of these the followed ones; the marks that spread from the
--- goals among them
+-- the descendants of d that were found, d among them, and of these the followed ones; the marks
+-- that spread from the goals among them
 pub record IsFinding (nodes : List NodeView) (d : ℕ) (given below down up followed gone_down gone_up : NodeSet) : Type 0 where
   pub decision : IsIn below d
   pub descend : (v : ℕ) → IsIn below v → IsPath (Arc nodes) d v

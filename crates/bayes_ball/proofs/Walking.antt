@@ -1,4 +1,5 @@
--- The marks of the three rules are the active walks. Walks are listed here from the node where they arrive.
+-- The marks of the three rules are the active walks. Walks are listed here from the node where they
+-- arrive.
 use Rattle.std.proofs.Common.{◌≡◌, ℕ, List, [], ◌∷◌, ◌⊎◌, ◌↔◌, inl, inr, refl, subst, sym, ◌∙◌}
 use Rattle.maid_model.specs.Walks.{IsJoined, IsCollider, IsActive, last_of, IsReached, WithArc, WithNode, IsReachedFromParent}
 use Rattle.bayes_ball.specs.Flow.{Way, Up, Down, Flows, Begin, Forward, Back, Bounce, IsClosed, IsLiveArc}

@@ -1,4 +1,5 @@
--- The steps of a search whose goals are found on the way, and which ends as soon as each of some nodes is marked.
+-- The steps of a search whose goals are found on the way, and which ends as soon as each of some
+-- nodes is marked.
 use Rattle.std.specs.Prelude.{◌≡◌, ℕ, ◌<◌, ◌⊎◌, ◌↔◌, Bool, true, false, List}
 use Rattle.node_sets.specs.declared.sets.NodeSet.{NodeSet}
 use Rattle.node_sets.specs.Paths.{LeadsFrom}
@@ -17,8 +18,8 @@ abbrev pub IsFoundGoal : List NodeView → ℕ → NodeSet → NodeSet → ℕ �
 IsFoundGoal nodes agent below below' v =
     IsIn below' v × (IsIn below v → ⊥) × IsUtilityOf nodes agent v
 
--- one wave along all arcs, from the nodes below that had not been followed; the utilities of the agent that it finds are
--- marked, and `went` tells whether there were any nodes to follow
+-- one wave along all arcs, from the nodes below that had not been followed; the utilities of the
+-- agent that it finds are marked, and `went` tells whether there were any nodes to follow
 pub record FindsGoals
     (nodes : List NodeView) (agent : ℕ) (below followed up below' followed' up' : NodeSet)
     (went : Bool) : Type 0 where

@@ -6,9 +6,9 @@ pub data Way : Type 0 where
   Up : Way
   Down : Way
 
--- what spreads from the start by three rules, over arcs between live nodes: down from a node that is not given, up
--- from one that is not given and was reached from below, and back up from one that is given and was reached from
--- above
+-- what spreads from the start by three rules, over arcs between live nodes: down from a node that
+-- is not given, up from one that is not given and was reached from below, and back up from one that
+-- is given and was reached from above
 pub data Flows
     (Arc : ℕ → ℕ → Type 0) (Given : ℕ → Type 0) (Start : Way → ℕ → Type 0) : Way → ℕ → Type 0 where
   Begin : {w : Way} {v : ℕ} → Start w v → Flows Arc Given Start w v

@@ -66,8 +66,8 @@ ReachesGoal nodes d v = (goal : ℕ) × IsGoal nodes d goal
 abbrev pub AllReachGoals : List NodeView → ℕ → NodeSet → Type 0
 AllReachGoals nodes d set = (v : ℕ) → IsIn set v → ReachesGoal nodes d v
 
--- what the marks of a search from the goals of d tell: from which nodes, and from which nodes' extra parents, an active
--- walk leads to a goal of d given d and its parents
+-- what the marks of a search from the goals of d tell: from which nodes, and from which nodes'
+-- extra parents, an active walk leads to a goal of d given d and its parents
 pub record TellsWalksToGoals (nodes : List NodeView) (d : ℕ) (marks : Marks) : Type 0 where
   pub reached : (v : ℕ) → v < length nodes → IsIn marks.reached v ↔ ReachesGoal nodes d v
   pub parents : (v : ℕ) → v < length nodes

@@ -60,7 +60,8 @@ HandDown nodes followed down = HandOn (LiveArc nodes) followed down
 abbrev pub HandUp : List NodeView → NodeSet → NodeSet → Type 0
 HandUp nodes followed up = (p v : ℕ) → IsIn followed v → LiveArc nodes p v → IsIn up p
 
--- one wave down, from all live nodes that lead down and had not been followed down; `went` tells whether there are any
+-- one wave down, from all live nodes that lead down and had not been followed down; `went` tells
+-- whether there are any
 pub record GoesDown
     (nodes : List NodeView) (given up down followed down' followed' : NodeSet) (went : Bool) :
     Type 0 where
@@ -71,7 +72,8 @@ pub record GoesDown
   pub fewer : went ≡ true → room followed' < room followed
   pub same : went ≡ false → (down' ≡ down) × (followed' ≡ followed)
 
--- one wave up, from all live nodes that lead up and had not been followed up; `went` tells whether there are any
+-- one wave up, from all live nodes that lead up and had not been followed up; `went` tells whether
+-- there are any
 pub record GoesUp
     (nodes : List NodeView) (given down up followed up' followed' : NodeSet) (went : Bool) :
     Type 0 where

@@ -25,9 +25,9 @@ pub(crate) fn family_of(diagram: &Diagram, decision: usize) -> NodeSet
     family
 }
 
-/// Searches, given the decision and its parents, from all utilities of its agent that descend from it. The marks also
-/// tell of which nodes an extra parent has an active walk to one of these utilities. It takes no memory, and its cost is
-/// that of one `reach`.
+/// Searches, given the decision and its parents, from all utilities of its agent that descend from
+/// it. The marks also tell of which nodes an extra parent has an active walk to one of these
+/// utilities. It takes no memory, and its cost is that of one `reach`.
 pub fn reach_from_goals(diagram: &Diagram, decision: usize) -> Marks
     requires { IsDecision diagram.now.nodes decision }
     ensures { TellsWalksToGoals diagram.now.nodes decision result }

@@ -1,6 +1,6 @@
-//! Active walks in an influence diagram, found by Bayes ball (Shachter 1998): from some nodes, or from an extra parent
-//! of a node, and given some nodes, it marks every node to which an active walk leads. Only utilities and nodes with
-//! two states or more are on walks.
+//! Active walks in an influence diagram, found by Bayes ball (Shachter 1998): from some nodes, or
+//! from an extra parent of a node, and given some nodes, it marks every node to which an active
+//! walk leads. Only utilities and nodes with two states or more are on walks.
 #![tactic(auto)]
 
 mod goals;

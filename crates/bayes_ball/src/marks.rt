@@ -16,7 +16,8 @@ pub struct Marks {
 }
 
 impl Marks {
-    /// The marks of a search in which walks arrive down arcs at the one set of nodes, and up arcs at the other.
+    /// The marks of a search in which walks arrive down arcs at the one set of nodes, and up arcs
+    /// at the other.
     pub(crate) fn of(given: &NodeSet, down: &NodeSet, up: &NodeSet) -> Marks
         ensures reached { (v : ℕ) → IsIn result.reached v ↔ (IsIn down.now v ⊎ IsIn up.now v) }
         ensures parents { AreLeadingUp given.now down.now up.now result.parents_reached }
@@ -35,8 +36,8 @@ impl Marks {
         self.reached.holds(node)
     }
 
-    /// Whether an active walk leads from an extra parent of the node to where the search started, if that was at
-    /// nodes.
+    /// Whether an active walk leads from an extra parent of the node to where the search started,
+    /// if that was at nodes.
     pub fn reached_parent_of(&self, node: usize) -> bool
         requires { node < MOST_NODES }
         ensures { IsTrue result ↔ IsIn self.now.parents_reached node }

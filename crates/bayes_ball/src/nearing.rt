@@ -11,8 +11,8 @@ use crate::waves::{go_down, go_up};
 use maid_model::Diagram;
 use node_sets::{NodeSet, children_of_any};
 
-/// Goes on from the nodes below that have not been followed to their children, marks those that are new there and
-/// utilities of the agent, and says whether there was any to follow.
+/// Goes on from the nodes below that have not been followed to their children, marks those that are
+/// new there and utilities of the agent, and says whether there was any to follow.
 fn find_goals(
     diagram: &Diagram,
     agent: usize,
@@ -41,10 +41,11 @@ fn are_all_marked(nodes: &NodeSet, down: &NodeSet, up: &NodeSet) -> bool
     nodes.difference(&down.union(up)).is_empty()
 }
 
-/// Whether an active walk leads to a goal of the decision from each of these nodes, given the decision and its parents.
-/// It goes on, wave by wave, from the decision to its descendants and from the goals that it has found among these along
-/// walks, and ends as soon as each node is reached, mostly long before all goals are found. It takes no memory; at worst
-/// its cost is that of `reach_from_goals`.
+/// Whether an active walk leads to a goal of the decision from each of these nodes, given the
+/// decision and its parents. It goes on, wave by wave, from the decision to its descendants and
+/// from the goals that it has found among these along walks, and ends as soon as each node is
+/// reached, mostly long before all goals are found. It takes no memory; at worst its cost is that
+/// of `reach_from_goals`.
 pub fn all_reach_goals(diagram: &Diagram, decision: usize, nodes: &NodeSet) -> bool
     requires { IsDecision diagram.now.nodes decision }
     ensures { IsTrue result ↔ AllReachGoals diagram.now.nodes decision nodes.now }

@@ -1,4 +1,5 @@
-//! Searches for active walks, from a node, from an extra parent of one, or from any of several nodes.
+//! Searches for active walks, from a node, from an extra parent of one, or from any of several
+//! nodes.
 
 ghost use Rattle.std.specs.Prelude.{ℕ, ◌<◌, ◌↔◌, length};
 ghost use Rattle.node_sets.specs.declared.sets.TheConstants.{MOST_NODES};
@@ -30,11 +31,13 @@ fn begin(start: Start) -> (NodeSet, NodeSet)
     }
 }
 
-/// Where active walks lead from the start. A node to start from must be live and not given; it is enough that a node is
-/// live to start from an extra parent of it. After a search from a node the marks also tell of which nodes an extra
-/// parent has an active walk to it; after one from an extra parent they don't.
+/// Where active walks lead from the start. A node to start from must be live and not given; it is
+/// enough that a node is live to start from an extra parent of it. After a search from a node the
+/// marks also tell of which nodes an extra parent has an active walk to it; after one from an extra
+/// parent they don't.
 ///
-/// It takes no memory, and looks at most once at the children and once at the parents of each node to which a walk leads.
+/// It takes no memory, and looks at most once at the children and once at the parents of each node
+/// to which a walk leads.
 pub fn reach(diagram: &Diagram, start: Start, given: &NodeSet) -> Marks
     requires given { (v : ℕ) → IsIn given.now v → v < length diagram.now.nodes }
     requires start { CanStart diagram.now.nodes given.now start }
@@ -46,8 +49,9 @@ pub fn reach(diagram: &Diagram, start: Start, given: &NodeSet) -> Marks
     Marks::of(given, &down, &up)
 }
 
-/// Where active walks lead from some of the starts, all of which must be live and not given. The marks also tell of
-/// which nodes an extra parent has an active walk to some of the starts. Memory and cost are those of one `reach`.
+/// Where active walks lead from some of the starts, all of which must be live and not given. The
+/// marks also tell of which nodes an extra parent has an active walk to some of the starts. Memory
+/// and cost are those of one `reach`.
 pub fn reach_from_any(diagram: &Diagram, starts: &NodeSet, given: &NodeSet) -> Marks
     requires given { (v : ℕ) → IsIn given.now v → v < length diagram.now.nodes }
     requires starts { CanStartAtAll diagram.now.nodes given.now starts.now }

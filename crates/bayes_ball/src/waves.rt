@@ -31,7 +31,8 @@ fn fresh_of(diagram: &Diagram, leading: &NodeSet, followed: &NodeSet) -> NodeSet
         .difference(followed)
 }
 
-/// Goes on down from the live nodes that lead down and have not been followed down, and says whether there are any.
+/// Goes on down from the live nodes that lead down and have not been followed down, and says
+/// whether there are any.
 pub(crate) fn go_down(
     diagram: &Diagram,
     given: &NodeSet,
@@ -52,7 +53,8 @@ pub(crate) fn go_down(
     true
 }
 
-/// Goes on up from the live nodes that lead up and have not been followed up, and says whether there are any.
+/// Goes on up from the live nodes that lead up and have not been followed up, and says whether
+/// there are any.
 pub(crate) fn go_up(
     diagram: &Diagram,
     given: &NodeSet,

@@ -1,4 +1,5 @@
--- Two runs of cells, each times its factor, added to a third: that each step fits, and what is added after it.
+-- Two runs of cells, each times its factor, added to a third: that each step fits, and what is
+-- added after it.
 use Rattle.std.proofs.Common.{◌≡◌, ℕ, ◌+◌, ◌*◌, ◌<◌, ◌≤◌, List, length, ap, arith, set}
 use Rattle.cell_rings.specs.Rings.{Ring}
 use Rattle.cell_rings.specs.Sums.{cell_at, two_scaled, two_sizes, AddsTwo, HasRoomForTwo}
@@ -6,7 +7,8 @@ use Rattle.cell_rings.specs.declared.pairs.RunPair.{RunPair}
 use Rattle.cell_rings.proofs.Runs.{run_room, run_step}
 use Rattle.cell_rings.proofs.Together.{AreFactors, two_size}
 
--- the i-th cells of both runs times their factors may be added up, and then to the cell that stands here
+-- the i-th cells of both runs times their factors may be added up, and then to the cell that stands
+-- here
 pub record TwoFit {C F : Type 0} (r : Ring C) (of : F → C) (size : F → ℕ) (cells : List C) (pair : RunPair F) (i : ℕ) (here : C) : Type 0 where
   pub sum : two_sizes r size cells pair i ≤ r.most
   pub first : {x : C} → x ≡ cell_at r cells (pair.from + i) → size pair.first * r.size x ≤ r.most

@@ -1,5 +1,5 @@
--- Proofs that the kinds of cell keep the laws of the numbers in them. They stand here since their ghost members cite
--- them.
+-- Proofs that the kinds of cell keep the laws of the numbers in them. They stand here since their
+-- ghost members cite them.
 use Rattle.std.proofs.Common.{refl, ap}
 use Rattle.cell_rings.specs.Rings.{Pair, IsRing, IsSize, IsMap, mass_ring, gain_ring, can_ring, both_ring}
 use Rattle.cell_rings.specs.Kinds.{mass_of, mass_kind, as_gain, gain_kind, can_of, can_kind, both_of, both_kind, pair_in, small_mass_of, small_mass_kind, small_gain_of, small_gain_kind}

@@ -58,7 +58,8 @@ abbrev pub HasRoomForDot : {C : Type 0} → Ring C → ℕ → C → List C → 
 HasRoomForDot r n factor cells from beside =
     ring_sum mass_ring n (dot_sizes r factor cells from beside) ≤ r.most
 
--- the i-th cells of both runs, each times its factor, added up; a factor is the cell that `of` makes of it
+-- the i-th cells of both runs, each times its factor, added up; a factor is the cell that `of`
+-- makes of it
 abbrev pub two_scaled : {C F : Type 0} → Ring C → (F → C) → List C → RunPair F → ℕ → C
 two_scaled r of cells pair = λ i.
     r.plus (r.times (of pair.first) (cell_at r cells (pair.from + i)))
@@ -112,7 +113,8 @@ abbrev pub AddsOne : {C : Type 0} → Ring C → C → List C → List C → ℕ
 AddsOne r factor old new at n cells from =
     AddsCells r (run_sum r n at (one_scaled r factor cells from)) old new
 
--- there is room in n cells from `at` on for those of two runs, each times its factor, whose size is `size`
+-- there is room in n cells from `at` on for those of two runs, each times its factor, whose size is
+-- `size`
 abbrev pub HasRoomForTwo :
     {C F : Type 0} → Ring C → (F → ℕ) → List C → ℕ → ℕ → List C → RunPair F → Type 0
 HasRoomForTwo r size out at n cells pair =

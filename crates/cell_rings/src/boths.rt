@@ -65,7 +65,8 @@ impl Cell for Both {
     }
 }
 
-/// The product. Where it is 0 the first factor may pass what a signed number holds, so the bits are multiplied.
+/// The product. Where it is 0 the first factor may pass what a signed number holds, so the bits are
+/// multiplied.
 fn scaled(m: u128, g: i128) -> i128
     requires { m * nat_abs g < 2 ^ 127 }
     ensures { result ≡ pos m *ℤ g }

@@ -6,9 +6,10 @@ ghost use Rattle.cell_rings.specs.Rings.{Ring, IsRing, IsSize};
 
 use crate::pairs::RunPair;
 
-/// A cell of a table. `ring` has its two operations and its sizes; a result fits where its size is at most `ring.most`.
-/// The laws, of the operations and of the sizes, are all that the layers above know. A cell is narrow where its `bits` are
-/// below `narrow`: runs of such cells are multiplied faster.
+/// A cell of a table. `ring` has its two operations and its sizes; a result fits where its size is
+/// at most `ring.most`. The laws, of the operations and of the sizes, are all that the layers above
+/// know. A cell is narrow where its `bits` are below `narrow`: runs of such cells are multiplied
+/// faster.
 pub trait Cell: Copy {
     ghost ring: { Ring Self };
 
@@ -76,7 +77,8 @@ pub trait Cell: Copy {
         }
     }
 
-    /// Whether n cells from one on are narrow. It may say no of any, and looks at each of them otherwise.
+    /// Whether n cells from one on are narrow. It may say no of any, and looks at each of them
+    /// otherwise.
     fn are_narrow(cells: &[Self], from: usize, n: usize) -> bool
         requires { from + n ≤ length cells.now }
         ensures { IsTrue result → IsNarrowRun ring bits narrow cells.now from n }
@@ -118,7 +120,8 @@ pub trait Cell: Copy {
         Self::add_two_narrow(out, at, n, other, cells)
     }
 
-    /// The sum of the products of the factor and the cells of two runs of n cells, from `from` on and from `beside` on.
+    /// The sum of the products of the factor and the cells of two runs of n cells, from `from` on
+    /// and from `beside` on.
     fn dot(n: usize, factor: Self, cells: &[Self], from: usize, beside: usize) -> Self
         requires cells { (from + n ≤ length cells.now) × (beside + n ≤ length cells.now) }
         requires first { (i : ℕ) → i < n → one_sizes ring factor cells.now from i ≤ ring.most }

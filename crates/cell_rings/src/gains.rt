@@ -165,7 +165,8 @@ fn add_two_words(out: &mut [Gain], at: usize, n: usize, pair: RunPair<Word>, cel
     }
 }
 
-/// The same for one pair of runs and another, so that each cell of the result is read and written once for four products.
+/// The same for one pair of runs and another, so that each cell of the result is read and written
+/// once for four products.
 #[inline(never)]
 fn add_four_words(
     out: &mut [Gain],
@@ -188,8 +189,8 @@ fn add_four_words(
     }
 }
 
-/// The same where the cells' absolute values are below 2^63 and the factors are any, with two products of 64 bits in
-/// place of three.
+/// The same where the cells' absolute values are below 2^63 and the factors are any, with two
+/// products of 64 bits in place of three.
 #[inline(never)]
 fn add_two_split(out: &mut [Gain], at: usize, n: usize, pair: RunPair<Split>, cells: &[Gain])
     requires out { at + n ≤ length out.old }
@@ -224,7 +225,8 @@ fn short_times(a: u64, b: u128) -> u128
     low.wrapping_add((high as u128) << 64)
 }
 
-/// Whether the absolute values of n cells from one on are below 2^63. It looks at the bits of all of them together.
+/// Whether the absolute values of n cells from one on are below 2^63. It looks at the bits of all
+/// of them together.
 fn are_words(cells: &[Gain], from: usize, n: usize) -> bool
     requires { from + n ≤ length cells.now }
     ensures { IsTrue result ↔ AreWords cells.now from n }
@@ -332,7 +334,8 @@ fn in_words(a: Gain) -> Split
     }
 }
 
-/// The product of a number and one whose absolute value is below 2^63. What passes 128 bits on the way falls away.
+/// The product of a number and one whose absolute value is below 2^63. What passes 128 bits on the
+/// way falls away.
 fn split_product(a: Split, b: Gain) -> Gain
     requires word { FitsWord b }
     requires room { nat_abs (whole a) * nat_abs b.0 ≤ 2 ^ 127 - 1 }

@@ -1,6 +1,6 @@
-//! The kinds of cell of a table. Each kind is added and multiplied by the laws of numbers, and each cell has a size, from
-//! which a caller that knows the laws alone sees that a result fits. `specs/Rings` has the laws, and no other crate defines
-//! a ring.
+//! The kinds of cell of a table. Each kind is added and multiplied by the laws of numbers, and each
+//! cell has a size, from which a caller that knows the laws alone sees that a result fits.
+//! `specs/Rings` has the laws, and no other crate defines a ring.
 #![tactic(auto)]
 
 mod boths;

@@ -113,8 +113,8 @@ fn short_product(a: u64, b: Mass) -> Mass
     Mass(short_times(a, b.0))
 }
 
-/// The product of a number below 2^64 and one of two words. The upper word is multiplied in 64 bits, since the compiler
-/// makes a whole product of 128 bits of anything else.
+/// The product of a number below 2^64 and one of two words. The upper word is multiplied in 64
+/// bits, since the compiler makes a whole product of 128 bits of anything else.
 fn short_times(a: u64, b: u128) -> u128
     requires { a * b < 2 ^ 127 }
     ensures { result ≡ a * b }

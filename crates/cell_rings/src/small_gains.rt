@@ -103,7 +103,8 @@ fn add_two_long(
     }
 }
 
-/// The same where all factors are from 0 and below 2^32: the compiler has one instruction for two such products.
+/// The same where all factors are from 0 and below 2^32: the compiler has one instruction for two
+/// such products.
 #[inline(never)]
 fn add_two_halves(
     out: &mut [SmallGain],
@@ -144,7 +145,8 @@ fn is_half(bits: u64) -> bool
     bits < 0x1_0000_0000
 }
 
-/// Whether n cells from one on are from 0 and below 2^32. It looks at the bits of all of them together.
+/// Whether n cells from one on are from 0 and below 2^32. It looks at the bits of all of them
+/// together.
 fn are_halves(cells: &[SmallGain], from: usize, n: usize) -> bool
     requires { from + n ≤ length cells.now }
     ensures { IsTrue result ↔ AreHalves cells.now from n }

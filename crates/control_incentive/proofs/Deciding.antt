@@ -1,4 +1,5 @@
--- The diagram in which the agent decides at a chance node too, and what is found where the first reasons don't apply.
+-- The diagram in which the agent decides at a chance node too, and what is found where the first
+-- reasons don't apply.
 use Rattle.std.proofs.Common.{◌≡◌, ◌≢◌, ◌∙◌, ◌⊎◌, ◌↔◌, ℕ, ◌<◌, Bool, true, ◌&&◌, ◌==◌, List, ◌∷◌, length, refl, sym, ap, subst, inl, inr}
 use Rattle.std.proofs.Math.Decide.{ℕ_discrete}
 use Rattle.std.proofs.Math.Path.{fun_ext}

@@ -1,5 +1,5 @@
--- What control of chance nodes is worth to an agent, and which incentives it has there: a line for each (Everitt et
--- al. 2021).
+-- What control of chance nodes is worth to an agent, and which incentives it has there: a line for
+-- each (Everitt et al. 2021).
 use Rattle.std.specs.Prelude.{◌≡◌, ◌↔◌, ℕ, List, All, filter, map, pos, ◌≤ℤ◌, IsTrue, IfSome}
 use Rattle.maid_model.specs.declared.diagrams.Kind.TheVariants.{Decision, Utility}
 use Rattle.maid_model.specs.Edits.{as_decision, one_agent}
@@ -24,8 +24,8 @@ chance_nodes nodes = filter (λ v. is_chance (node_at nodes v).kind) (numbers_of
 abbrev pub controlling : DiagramView → ℕ → ℕ → DiagramView
 controlling d agent x = with_nodes d (as_decision d.nodes agent x)
 
--- why control has no value: it is worthless unless that holds, it makes too much of the rules, or the solver refuses
--- the diagram with it
+-- why control has no value: it is worthless unless that holds, it makes too much of the rules, or
+-- the solver refuses the diagram with it
 abbrev pub of_control : DiagramView → ℕ → ℕ → Type 0 → Pass Reason
 of_control d agent x Matters = unless Matters Worthless
     ▸ rule (IsTooLargeAsDecision d.nodes agent x) TooLarge
@@ -35,10 +35,11 @@ of_control d agent x Matters = unless Matters Worthless
 abbrev pub line_node : ControlLine → ℕ
 line_node line = line.node
 
--- A line says whether in the trimmed diagram a path leads from the node to a decision of the agent, whether one leads
--- from such a decision through the node to a utility of the agent, and what is found of its control:
--- the first reason that applies, which is that no path leads from it to a utility of the agent in the trimmed
--- diagram, or a limit, or the solver's; or else the control value.
+-- A line says whether in the trimmed diagram a path leads from the node to a decision of the agent,
+-- whether one leads from such a decision through the node to a utility of the agent, and what is
+-- found of its control: the first reason that applies, which is that no path leads from it to a
+-- utility of the agent in the trimmed diagram, or a limit, or the solver's; or else the control
+-- value.
 pub record IsControlLine
     (d : DiagramView) (answers : List AnswerView) (agent : ℕ) (trimmed : List NodeView)
     (line : ControlLine) : Type 0 where
@@ -70,7 +71,8 @@ TellIncentives d solved agent lines = AreControlLines d solved.answers agent lin
 abbrev pub HasChanceNodes : List NodeView → List ControlLine → Type 0
 HasChanceNodes nodes lines = map line_node lines ≡ chance_nodes nodes
 
--- the worth that a line tells is the control value, and not below nought; a worthless line tells of two equal optima
+-- the worth that a line tells is the control value, and not below nought; a worthless line tells of
+-- two equal optima
 abbrev pub TellsControl : DiagramView → List AnswerView → ℕ → ControlLine → Type 0
 TellsControl d answers agent line = IfSome (worth_of line.found) (λ r.
     IsValueOfControl d.nodes d.decimals answers agent line.node r × (pos 0 ≤ℤ r.num))

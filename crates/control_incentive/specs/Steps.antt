@@ -1,4 +1,5 @@
--- What the steps promise one another, in the diagram in which one agent decides alone. Only private functions cite it.
+-- What the steps promise one another, in the diagram in which one agent decides alone. Only private
+-- functions cite it.
 use Rattle.std.specs.Prelude.{◌≡◌, ◌↔◌, ℕ, Bool, List, All, Option, MatchOption, IsTrue}
 use Rattle.maid_model.specs.declared.diagrams.Kind.TheVariants.{Chance, Decision, Utility}
 use Rattle.maid_model.specs.Nodes.{node_at}

@@ -15,9 +15,10 @@ use relevance_graph::walks_to_goals_stand;
 use rule_solver::{KeptDiagram, Workspaces, kept_diagrams_stand};
 use std::alloc::{AllocError, Global};
 
-/// What is found of the control of a chance node that matters to the agent or doesn't. Where it does, the agent decides at
-/// the node in a copy of the baseline's diagram, which is solved once, and then the node is put back. The plans and searches
-/// that are kept stand there. It runs in the workspaces that are left of another run, and leaves its own.
+/// What is found of the control of a chance node that matters to the agent or doesn't. Where it
+/// does, the agent decides at the node in a copy of the baseline's diagram, which is solved once,
+/// and then the node is put back. The plans and searches that are kept stand there. It runs in the
+/// workspaces that are left of another run, and leaves its own.
 pub(crate) fn find(
     alloc: Global,
     baseline: &Baseline,

@@ -27,7 +27,8 @@ pub struct ControlLine {
     pub node: usize,
     /// Whether in the trimmed diagram a path leads from the node to a decision of the agent.
     pub response: bool,
-    /// Whether a path leads from a decision of the agent through the node to a utility of the agent.
+    /// Whether a path leads from a decision of the agent through the node to a utility of the
+    /// agent.
     pub instrumental: bool,
     pub found: Found,
 }
@@ -57,8 +58,8 @@ fn chance_nodes(alloc: Global, diagram: &Diagram) -> Result<Vec<usize>, AllocErr
     Ok(nodes)
 }
 
-/// The plans of the diagram and the searches for its decisions, if any node matters, and else nothing: then no edited
-/// diagram is solved.
+/// The plans of the diagram and the searches for its decisions, if any node matters, and else
+/// nothing: then no edited diagram is solved.
 fn keep_for(
     alloc: Global,
     alone: &Diagram,
@@ -107,7 +108,8 @@ fn control_line(
     })
 }
 
-/// A line for each of the chance nodes. All runs share their workspaces and one copy of the baseline's diagram.
+/// A line for each of the chance nodes. All runs share their workspaces and one copy of the
+/// baseline's diagram.
 fn control_lines(
     alloc: Global,
     baseline: &Baseline,
@@ -135,17 +137,20 @@ fn control_lines(
 
 /// What control is worth to the agent: a line for each chance node of the diagram, in text order.
 ///
-/// Everything is asked in the diagram in which only this agent decides and the others take the answered choices. A line
-/// says the first of these that applies: `Worthless` where in the trimmed diagram no path leads from the node to a utility
-/// of the agent; `TooLarge` where as a decision the node makes too much of the rules; `Cycle`, `Bound` or `TooLarge` where
-/// the solver refuses the diagram in which the agent decides at the node; and else `Value`, the optimum of that diagram
-/// less the optimum before. The two flags are facts of the graph, and no value is claimed from them.
+/// Everything is asked in the diagram in which only this agent decides and the others take the
+/// answered choices. A line says the first of these that applies: `Worthless` where in the trimmed
+/// diagram no path leads from the node to a utility of the agent; `TooLarge` where as a decision
+/// the node makes too much of the rules; `Cycle`, `Bound` or `TooLarge` where the solver refuses
+/// the diagram in which the agent decides at the node; and else `Value`, the optimum of that
+/// diagram less the optimum before. The two flags are facts of the graph, and no value is claimed
+/// from them.
 ///
-/// The optimum before is the answer's own gain. It trims the diagram and searches it a few times, and each line costs at
-/// most one edit and one run of the solver. The plans of the agent's decisions and those of the utilities' worths are made
-/// once for all lines, and copied for each run, which makes only those of the node's decision. The searches for the agent's
-/// decisions are made once, too, and each run makes only that for the node. The runs share their workspaces, and one copy of
-/// the diagram, in which the agent decides at one node after another.
+/// The optimum before is the answer's own gain. It trims the diagram and searches it a few times,
+/// and each line costs at most one edit and one run of the solver. The plans of the agent's
+/// decisions and those of the utilities' worths are made once for all lines, and copied for each
+/// run, which makes only those of the node's decision. The searches for the agent's decisions are
+/// made once, too, and each run makes only that for the node. The runs share their workspaces, and
+/// one copy of the diagram, in which the agent decides at one node after another.
 ///
 /// # Errors
 ///

@@ -1,4 +1,5 @@
--- Lists of parents have no directed cycle or a first one: items are placed as long as one can be, and where some remain, the trail among them comes back.
+-- Lists of parents have no directed cycle or a first one: items are placed as long as one can be,
+-- and where some remain, the trail among them comes back.
 use Rattle.std.proofs.Common.{◌≡◌, ◌≢◌, ◌⊎◌, ℕ, zero, suc, ◌+◌, ◌<◌, ◌≤◌, true, inl, inr, List, [], ◌∷◌, ◌++◌, length, get_or, take, drop, refl, sym, ◌∙◌, subst, arith}
 use Rattle.std.specs.Prelude.{Contains, AllPairs}
 use Rattle.std.specs.List.{list_any}

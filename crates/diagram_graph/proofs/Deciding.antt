@@ -1,4 +1,5 @@
--- The diagram in which a chance node is a decision of an agent is one where the rules have few enough cells.
+-- The diagram in which a chance node is a decision of an agent is one where the rules have few
+-- enough cells.
 use Rattle.std.proofs.Common.{◌≡◌, ◌≢◌, ◌∙◌, ℕ, ◌+◌, ◌*◌, ◌<◌, ◌≤◌, cond, List, [], ◌∷◌, length, refl, sym, ap, subst, pos, nat_abs, arith, slice_index_or, All}
 use Rattle.std.specs.List.{range_with_len}
 use Rattle.std.specs.Prelude.{Contains}

@@ -1,4 +1,5 @@
--- The cells of all rules together, as a sum over all nodes, and what a change at one node does to it.
+-- The cells of all rules together, as a sum over all nodes, and what a change at one node does to
+-- it.
 use Rattle.std.proofs.Common.{◌≡◌, ◌≢◌, ◌⊎◌, ◌∙◌, ℕ, zero, suc, ◌+◌, Bool, true, false, cond, filter, List, [], ◌∷◌, refl, sym, ap, subst, inl, inr, arith}
 use Rattle.std.specs.List.{range_with_len}
 use Rattle.std.proofs.Math.Decide.{ℕ_discrete}

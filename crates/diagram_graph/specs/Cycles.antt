@@ -19,9 +19,9 @@ lists_in rows = map (λ row. row.items) rows
 abbrev pub ListedArc : List (List ℕ) → ℕ → ℕ → Type 0
 ListedArc lists u v = NeedsItem lists v u
 
--- Nodes without remaining parents are taken away until none is left to take; the cycle starts at the first remaining
--- node, goes each time to its first remaining parent, and is the list from the first visit of the node that comes
--- twice.
+-- Nodes without remaining parents are taken away until none is left to take; the cycle starts at
+-- the first remaining node, goes each time to its first remaining parent, and is the list from the
+-- first visit of the node that comes twice.
 abbrev pub IsParentCycle : List (List ℕ) → List ℕ → Type 0
 IsParentCycle lists cycle = IsFirstCycle (λ v. v < length lists) lists cycle
 

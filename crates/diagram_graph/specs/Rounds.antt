@@ -1,4 +1,5 @@
--- Where placing stops short: a round among the items that are left, along each item's own list of needs.
+-- Where placing stops short: a round among the items that are left, along each item's own list of
+-- needs.
 use Rattle.std.specs.Prelude.{◌≡◌, ℕ, ◌+◌, ◌-◌, ◌<◌, Bool, List, length, drop, slice_index, Option, MatchOption, Contains}
 use Rattle.maid_model.specs.Placing.{IsLeast, Remains, CanPlace, IsPlacing}
 use Rattle.diagram_graph.specs.Free.{IsFree}
@@ -36,7 +37,8 @@ pub record IsListedRound (Left : ℕ → Type 0) (lists : List (List ℕ)) (cycl
 abbrev pub Circles : List (List ℕ) → List Bool → List Bool → List ℕ → Type 0
 Circles lists items placed cycle = IsListedRound (IsFree items placed) lists cycle
 
--- items are placed as long as one can be, some remain, and a round among those that remain is the cycle
+-- items are placed as long as one can be, some remain, and a round among those that remain is the
+-- cycle
 pub record IsFirstCycle (Item : ℕ → Type 0) (lists : List (List ℕ)) (cycle : List ℕ) : Type 0 where
   pub placed : List ℕ
   pub placing : IsPlacing Item (NeedsItem lists) placed

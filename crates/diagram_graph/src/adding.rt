@@ -25,7 +25,8 @@ pub enum AddFault {
     /// The arc would lead from the decision itself or from a node that descends from it.
     #[error("the arc would close a cycle")]
     WouldCycle,
-    /// The decision would have too many parents or its rule too many cells, or all rules together would.
+    /// The decision would have too many parents or its rule too many cells, or all rules together
+    /// would.
     #[error("too many parents or cells of rules")]
     TooLarge,
     /// Memory ran out, which says nothing of the diagram.
@@ -92,9 +93,10 @@ fn has_room(diagram: &Diagram, from: usize, to: usize) -> bool
     rule_cells(diagram) + more <= MOST_RULE_CELLS + cells
 }
 
-/// Whether an arc into the decision, which is not there and would close no cycle, would make too much of the rules: the
-/// decision would have more than 16 parents, its rule more than 65,536 cells, or all rules together more than 262,144.
-/// It takes no memory, and goes over the parents of all decisions once.
+/// Whether an arc into the decision, which is not there and would close no cycle, would make too
+/// much of the rules: the decision would have more than 16 parents, its rule more than 65,536
+/// cells, or all rules together more than 262,144. It takes no memory, and goes over the parents of
+/// all decisions once.
 pub fn is_too_large(diagram: &Diagram, from: usize, to: usize) -> bool
     requires decision { IsDecision diagram.now.nodes to }
     requires from { from < length diagram.now.nodes }
@@ -105,12 +107,12 @@ pub fn is_too_large(diagram: &Diagram, from: usize, to: usize) -> bool
     !has_room(diagram, from, to)
 }
 
-/// The diagram with the arc into the decision, as its last parent. It looks at each node a few times, and takes the time
-/// and the memory of a copy of all cells.
+/// The diagram with the arc into the decision, as its last parent. It looks at each node a few
+/// times, and takes the time and the memory of a copy of all cells.
 ///
-/// It is refused exactly where the arc is there; else where it would close a cycle; else where the decision would have
-/// more than 16 parents, its rule more than 65,536 cells, or all rules together more than 262,144; and else where memory
-/// ran out.
+/// It is refused exactly where the arc is there; else where it would close a cycle; else where the
+/// decision would have more than 16 parents, its rule more than 65,536 cells, or all rules together
+/// more than 262,144; and else where memory ran out.
 pub fn add_arc(
     alloc: Global,
     diagram: &Diagram,
@@ -139,9 +141,9 @@ pub fn add_arc(
     Ok(with_nodes(alloc, diagram, nodes)?)
 }
 
-/// Adds an arc that is not there to the diagram itself, as `add_arc` does to a copy, and gives the decision as it was:
-/// `Diagram::exchange` puts it back. It takes memory for the decision alone, and looks at no other node. Where there is
-/// room, `is_too_large` tells.
+/// Adds an arc that is not there to the diagram itself, as `add_arc` does to a copy, and gives the
+/// decision as it was: `Diagram::exchange` puts it back. It takes memory for the decision alone,
+/// and looks at no other node. Where there is room, `is_too_large` tells.
 ///
 /// # Errors
 ///

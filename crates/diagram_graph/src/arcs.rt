@@ -54,8 +54,8 @@ fn drop_arc(nodes: &mut Vec<Node>, from: usize, to: usize)
     drop_parent_of(&mut nodes[to], from);
 }
 
-/// The diagram without the arc into the decision, whose other parents keep their order. It takes the time and the
-/// memory of a copy of all cells.
+/// The diagram without the arc into the decision, whose other parents keep their order. It takes
+/// the time and the memory of a copy of all cells.
 ///
 /// It is refused exactly where there is no such arc, and else where memory ran out.
 pub fn remove_arc(
@@ -100,8 +100,9 @@ pub fn lose_arc(
     Diagram::from_nodes(alloc, nodes, agents, decimals)
 }
 
-/// Takes the arc into the decision out of the diagram itself, as `remove_arc` does out of a copy, and gives the decision
-/// as it was: `Diagram::exchange` puts it back. It takes memory for the decision alone, and looks at no other node.
+/// Takes the arc into the decision out of the diagram itself, as `remove_arc` does out of a copy,
+/// and gives the decision as it was: `Diagram::exchange` puts it back. It takes memory for the
+/// decision alone, and looks at no other node.
 ///
 /// # Errors
 ///

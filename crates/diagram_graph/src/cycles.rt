@@ -7,8 +7,9 @@ use crate::placing::{Placing, place_all};
 use maid_model::Diagram;
 use std::alloc::{AllocError, Global};
 
-/// All nodes in an order with parents first: each time the first node in text whose parents all stand before it. It
-/// goes over all nodes once for each node, which is a few tens of thousands of looks for the greatest diagram.
+/// All nodes in an order with parents first: each time the first node in text whose parents all
+/// stand before it. It goes over all nodes once for each node, which is a few tens of thousands of
+/// looks for the greatest diagram.
 ///
 /// # Errors
 ///
@@ -23,10 +24,11 @@ pub fn topological(alloc: Global, diagram: &Diagram) -> Result<Vec<usize>, Alloc
     }
 }
 
-/// A directed cycle of the graph in which each node has the parents of its list, if there is one. Nodes without
-/// remaining parents are taken away until none is left to take. From the first remaining node it goes each time to the
-/// first remaining parent in the node's own list; the cycle is the list from the first visit of the node that comes
-/// twice. It goes over all nodes once for each node.
+/// A directed cycle of the graph in which each node has the parents of its list, if there is one.
+/// Nodes without remaining parents are taken away until none is left to take. From the first
+/// remaining node it goes each time to the first remaining parent in the node's own list; the cycle
+/// is the list from the first visit of the node that comes twice. It goes over all nodes once for
+/// each node.
 ///
 /// # Errors
 ///

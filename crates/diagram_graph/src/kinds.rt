@@ -1,4 +1,5 @@
-//! Nodes of another kind: a chance node under an agent's control, and decisions of other agents as chance nodes.
+//! Nodes of another kind: a chance node under an agent's control, and decisions of other agents as
+//! chance nodes.
 
 ghost use Rattle.std.specs.Prelude.{◌≡◌, ℕ, ◌<◌, ◌≤◌, ◌*◌, ◌↔◌, ◌++◌, map, length, pos, IsTrue, IfOk, OnOk, IsErrOf, OnErr};
 ghost use Rattle.maid_model.specs.declared.diagrams.Kind.TheVariants.{Chance};
@@ -69,7 +70,8 @@ fn lacks_room(diagram: &Diagram, node: usize) -> bool
     rule_cells(diagram) + cells_at(diagram, node) > MOST_RULE_CELLS
 }
 
-/// Makes the chance node a decision of the agent, for whose rule there is room. Gives the node as it was.
+/// Makes the chance node a decision of the agent, for whose rule there is room. Gives the node as
+/// it was.
 fn put_decision(
     alloc: Global,
     diagram: &mut Diagram,
@@ -88,9 +90,9 @@ fn put_decision(
     Ok(diagram.exchange(node, made))
 }
 
-/// Makes the chance node a decision of the agent in the diagram itself, as `make_decision` does in a copy, and gives the node
-/// as it was: `Diagram::exchange` puts it back. It takes memory for the decision's parents alone, and looks at the rules
-/// of all decisions.
+/// Makes the chance node a decision of the agent in the diagram itself, as `make_decision` does in
+/// a copy, and gives the node as it was: `Diagram::exchange` puts it back. It takes memory for the
+/// decision's parents alone, and looks at the rules of all decisions.
 ///
 /// # Errors
 ///
@@ -113,10 +115,11 @@ pub fn decide_at(
     Ok(put_decision(alloc, diagram, node, agent)?)
 }
 
-/// The diagram in which the chance node is a decision of the agent, with the same states and parents and without its
-/// table. It takes the time and the memory of a copy of all cells.
+/// The diagram in which the chance node is a decision of the agent, with the same states and
+/// parents and without its table. It takes the time and the memory of a copy of all cells.
 ///
-/// It is refused exactly where all rules together would have more than 262,144 cells, and else where memory ran out.
+/// It is refused exactly where all rules together would have more than 262,144 cells, and else
+/// where memory ran out.
 pub fn make_decision(
     alloc: Global,
     diagram: &Diagram,
@@ -221,9 +224,9 @@ fn fixed_node(
     }
 }
 
-/// The diagram in which only the agent decides: each decision of another agent is a chance node with weight 1 on the
-/// answered choice of each row and 0 elsewhere. It takes the time and the memory of a copy of all cells, and of the
-/// cells of the other agents' rules.
+/// The diagram in which only the agent decides: each decision of another agent is a chance node
+/// with weight 1 on the answered choice of each row and 0 elsewhere. It takes the time and the
+/// memory of a copy of all cells, and of the cells of the other agents' rules.
 ///
 /// # Errors
 ///

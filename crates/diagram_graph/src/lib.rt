@@ -1,8 +1,10 @@
-//! Orders: items of any kind that need one another are placed in order by `place_all`, which finds the nodes of an
-//! influence diagram with parents first, and the first directed cycle of a list of parents.
+//! Orders: items of any kind that need one another are placed in order by `place_all`, which finds
+//! the nodes of an influence diagram with parents first, and the first directed cycle of a list of
+//! parents.
 //!
-//! Edits: the diagram without an arc into a decision or with one more, with a chance node as a decision, or with the
-//! decisions of all agents but one as chance nodes; and the part that some nodes and all their ancestors make.
+//! Edits: the diagram without an arc into a decision or with one more, with a chance node as a
+//! decision, or with the decisions of all agents but one as chance nodes; and the part that some
+//! nodes and all their ancestors make.
 #![tactic(auto)]
 
 mod adding;

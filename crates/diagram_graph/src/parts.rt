@@ -109,12 +109,14 @@ fn part_nodes(alloc: Global, diagram: &Diagram, kept: &[usize]) -> Result<Vec<No
     Ok(nodes)
 }
 
-/// The part of the diagram that these nodes and all their ancestors make, in text order, with the agents and the
-/// decimals of the whole. Where the part has a decision and all utilities of its agent that descend from it, the
-/// decision's sums in the whole are those in the part times one factor, the totals of what is left out; and so are an
-/// agent's, where the part has all its utilities: `part_laws::law_of_parts`.
+/// The part of the diagram that these nodes and all their ancestors make, in text order, with the
+/// agents and the decimals of the whole. Where the part has a decision and all utilities of its
+/// agent that descend from it, the decision's sums in the whole are those in the part times one
+/// factor, the totals of what is left out; and so are an agent's, where the part has all its
+/// utilities: `part_laws::law_of_parts`.
 ///
-/// It looks at each node a few times, and takes the time and the memory of a copy of the kept cells.
+/// It looks at each node a few times, and takes the time and the memory of a copy of the kept
+/// cells.
 ///
 /// # Errors
 ///

@@ -9,7 +9,8 @@ use crate::needs::Needs;
 use crate::rounds::find_round;
 use std::alloc::{AllocError, Global};
 
-/// All items in an order in which each stands after those that it needs, or a cycle of items that need one another.
+/// All items in an order in which each stands after those that it needs, or a cycle of items that
+/// need one another.
 #[derive(Debug, Drop)]
 pub enum Placing {
     Order(Vec<usize>),
@@ -116,13 +117,14 @@ fn place_in<N: Needs>(
     }
 }
 
-/// Places the items one by one, each time the first that needs no item that is not placed; only items may be needed.
-/// Where that places all, it answers their order. Otherwise it answers a cycle: from the first item that is left it
-/// goes each time to the first of its needs that is left, until one comes twice.
+/// Places the items one by one, each time the first that needs no item that is not placed; only
+/// items may be needed. Where that places all, it answers their order. Otherwise it answers a
+/// cycle: from the first item that is left it goes each time to the first of its needs that is
+/// left, until one comes twice.
 ///
-/// Each step looks at the items from the first on, and at the needs of one that is not placed up to the first that is
-/// not placed either: at most as many looks as items times all needs, and about the square of the number of items where
-/// items mostly stand after what they need.
+/// Each step looks at the items from the first on, and at the needs of one that is not placed up to
+/// the first that is not placed either: at most as many looks as items times all needs, and about
+/// the square of the number of items where items mostly stand after what they need.
 ///
 /// # Errors
 ///

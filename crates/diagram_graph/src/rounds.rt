@@ -24,7 +24,8 @@ fn first_in(list: &[usize], items: &[bool], placed: &[bool]) -> Option<usize>
     None
 }
 
-/// The first of what v needs that is left. There is one, since v itself is left and nothing is ready.
+/// The first of what v needs that is left. There is one, since v itself is left and nothing is
+/// ready.
 fn next_needed<N: Needs>(needs: &N, items: &[bool], placed: &[bool], v: usize) -> usize
     requires items_len { length items.now ≡ length (N.lists needs.now) }
     requires placed_len { length placed.now ≡ length (N.lists needs.now) }
@@ -53,8 +54,8 @@ fn place_of(list: &[usize], x: usize) -> usize
     unreachable!()
 }
 
-/// The trail from the first that is left, each time to the first of its needs that is left, from where it comes back to
-/// an item.
+/// The trail from the first that is left, each time to the first of its needs that is left, from
+/// where it comes back to an item.
 pub fn find_round<N: Needs>(
     alloc: Global,
     needs: &N,

@@ -1,4 +1,5 @@
--- The cells of a scope, counted along a walk through it: what is counted so far, times what is to come.
+-- The cells of a scope, counted along a walk through it: what is counted so far, times what is to
+-- come.
 use Rattle.std.proofs.Common.{◌≡◌, ◌∙◌, ℕ, zero, suc, ◌+◌, ◌-◌, ◌*◌, ◌<◌, ◌≤◌, Bool, cond, List, length, get_or, refl, sym, ap, arith}
 use Rattle.std.specs.List.{range_with_len}
 use Rattle.finite_sums.specs.Sums.{nat_product_over}

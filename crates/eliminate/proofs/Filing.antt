@@ -144,11 +144,13 @@ module _ {ranks steps : List ℕ} {count : ℕ} (ranking : IsRanking ranks steps
     early : rank_of ranks count node ≤ i
     early = omega (arith, rank node, ranking.first i l)
 
-    -- of a scope without the nodes of earlier steps, which holds this step's node, that is the first
+    -- of a scope without the nodes of earlier steps, which holds this step's node, that is the
+    -- first
     first_here : (scope : ℕ → Bool) → NoneBefore ranks count i scope → scope node ≡ true → IsFirstOf ranks count scope node
     first_here scope none t = (t, omega (arith, early, l, all), λ v h. omega (arith, early, none v h))
 
-    -- so, as no live slot holds the nodes of earlier steps, the live ones filed under it are those that hold it
+    -- so, as no live slot holds the nodes of earlier steps, the live ones filed under it are those
+    -- that hold it
     pub tells_holders : {at : List NodeSet} {slots : List Slot} {live : NodeSet} {made : ℕ} → IsBoardBy ranks count at slots live made → made ≤ length slots → node < length at → AllLater ranks count i (live_slots live made slots)
         → (k : ℕ) (none : NodeSet) → IsIn live k → holds (slice_index_or at node none) k ≡ scope_at (take made slots) k node
     tells_holders {at} {slots} {live} {made} board within small later k none t =

@@ -1,4 +1,5 @@
--- How a workspace grows: by nothing, by tables that stand in it, by one more, and by one growth after another.
+-- How a workspace grows: by nothing, by tables that stand in it, by one more, and by one growth
+-- after another.
 use Rattle.std.proofs.Common.{◌∙◌, ℕ, List, refl, arith}
 use Rattle.maid_model.specs.Views.{NodeView}
 use Rattle.cell_rings.specs.Rings.{Ring}

@@ -64,7 +64,8 @@ from_more p n place xs d a l h t =
     ∙ ap (λ ys. ys ++ get_or xs place d ∷ [])
     (from_front p n (take place xs) (omega (arith, a, long)) (λ k b c. h k b (omega (arith, c, long))) ∙ ap (slots_from p 0) (take-take n place xs a))
 
--- those that pass another test too, which tells of those that pass the first whether they hold the node
+-- those that pass another test too, which tells of those that pass the first whether they hold the
+-- node
 pub from_filter : (p h : ℕ → Bool) (v i : ℕ) (f : Bool → Bool) (xs : List Slot) → ((k : ℕ) → k < length xs → p (i + k) ≡ true → h (i + k) ≡ scope_at xs k v)
     → filter (λ s. f (holds s.scope v)) (slots_from p i xs) ≡ slots_from (λ k. p k && f (h k)) i xs
 from_filter p h v i f [] e = refl

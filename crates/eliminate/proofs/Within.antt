@@ -1,4 +1,5 @@
--- What a call with limits has taken from them: among the first tables, between steps and at the end.
+-- What a call with limits has taken from them: among the first tables, between steps and at the
+-- end.
 use Rattle.std.proofs.Common.{◌≡◌, ◌∙◌, ◌⊎◌, ◌↔◌, ℕ, ◌+◌, ◌-◌, ◌*◌, ◌<◌, ◌≤◌, List, [], ◌∷◌, drop, length, get_or, Some, None, refl, sym, ap, subst, inl, inr, arith}
 use Rattle.std.specs.List.{sum_by, AllZip}
 use Rattle.std.proofs.Math.Path.{fun_ext}
@@ -103,8 +104,8 @@ scopes_same r nodes cells (s ∷ ss) (t ∷ ts) m = (λ i. fun_ext m.0.holds i �
 abbrev pub steps_cells : {C : Type 0} → Cells C → List NodeView → List RuleView → List ℕ → List ℕ → ℕ
 steps_cells c nodes p vs steps = sum_by (first_cells c nodes p) vs + made_cells nodes steps (scopes_of (tables_at c nodes p vs))
 
--- a sum of the first tables of these nodes is under way: the steps to come lead on from the slots that stand, and the
--- cells and the work of those so far were taken from the limits
+-- a sum of the first tables of these nodes is under way: the steps to come lead on from the slots
+-- that stand, and the cells and the work of those so far were taken from the limits
 pub record Underway {C : Type 0}
     (c : Cells C) (nodes : List NodeView) (p : List RuleView) (vs steps : List ℕ) (limits : Limits)
     (before now : WorkspaceView C) (slots : List Slot) (rest : List ℕ) (left : Limits) : Type 0 where

@@ -44,7 +44,8 @@ step_cells nodes v scopes = counted_cells nodes (joined_without v (holding v sco
 abbrev pub step_work : List NodeView → ℕ → List (ℕ → Bool) → ℕ
 step_work nodes v scopes = counted_cells nodes (joined_set v scopes) * length (holding v scopes)
 
--- the cells and the work of a step over those scopes are taken from what is left, where there is as much
+-- the cells and the work of a step over those scopes are taken from what is left, where there is as
+-- much
 abbrev pub SpendsStep : List NodeView → ℕ → List (ℕ → Bool) → Limits → Option Limits → Type 0
 SpendsStep nodes v scopes left result =
     Spends left (step_cells nodes v scopes) (step_work nodes v scopes) result
@@ -57,7 +58,8 @@ product_cells nodes scopes = counted_cells nodes (λ v. list_any (λ s. s v) sco
 abbrev pub product_work : List NodeView → List (ℕ → Bool) → ℕ
 product_work nodes scopes = product_cells nodes scopes * length scopes
 
--- the cells and the work of the product over those scopes are taken from what is left, where there is as much
+-- the cells and the work of the product over those scopes are taken from what is left, where there
+-- is as much
 abbrev pub SpendsProduct : List NodeView → List (ℕ → Bool) → Limits → Option Limits → Type 0
 SpendsProduct nodes scopes left result =
     Spends left (product_cells nodes scopes) (product_work nodes scopes) result

@@ -1,4 +1,5 @@
--- Slots at places, of which a set tells the live ones, each filed under one node. Only private contracts cite this file.
+-- Slots at places, of which a set tells the live ones, each filed under one node. Only private
+-- contracts cite this file.
 use Rattle.std.specs.Prelude.{◌≡◌, ℕ, zero, suc, ◌<◌, ◌≤◌, ◌++◌, Bool, true, false, List, [], ◌∷◌, length, take, slice_index, slice_index_or, if◌then◌else◌, ◌↔◌, ◌⊎◌}
 use Rattle.node_sets.specs.declared.sets.NodeSet.{NodeSet}
 use Rattle.node_sets.specs.Sets.{holds, IsIn}
@@ -30,7 +31,8 @@ scope_at (s ∷ ss) (suc k) v = scope_at ss k v
 abbrev pub rank_of : List ℕ → ℕ → ℕ → ℕ
 rank_of ranks count v = slice_index_or ranks v count
 
--- the rank of a step's node is its first position among the steps, and no other node has a rank below their number
+-- the rank of a step's node is its first position among the steps, and no other node has a rank
+-- below their number
 pub record IsRanking (ranks steps : List ℕ) : Type 0 where
   pub first : (i : ℕ) → i < length steps → rank_of ranks (length steps) (slice_index steps i) ≤ i
   pub stands : (v : ℕ) → rank_of ranks (length steps) v < length steps

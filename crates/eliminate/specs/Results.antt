@@ -34,8 +34,8 @@ plan_total nodes p plan = nat_product_over (weight_total nodes p) (ruled_nodes n
 abbrev pub total_of : Play → PlanView → ℕ
 total_of p plan = plan_total p.diagram.now.nodes p.profile.now plan
 
--- the slot is that of the plan's sum, over the kept nodes; as many cells as the plan counts were appended, and slots
--- that were live are, with their tables
+-- the slot is that of the plan's sum, over the kept nodes; as many cells as the plan counts were
+-- appended, and slots that were live are, with their tables
 pub record SumsPlan {C : Type 0}
     (c : Cells C) (nodes : List NodeView) (p : List RuleView) (made : SizedPlan)
     (before after : WorkspaceView C) (slot : Slot) : Type 0 where
@@ -80,21 +80,24 @@ pub record SumsTables {C : Type 0}
       → (table_of c.ring nodes after.cells slot).cell w
       ≡ product_of c.ring (tables_left c nodes p vs steps) w
 
--- cells were at most appended: there is as much space as before, and slots that were live are, with their tables
+-- cells were at most appended: there is as much space as before, and slots that were live are, with
+-- their tables
 pub record Grows {C : Type 0}
     (r : Ring C) (nodes : List NodeView) (before after : WorkspaceView C) : Type 0 where
   pub space : length after.cells + after.spare ≡ length before.cells + before.spare
   pub stays :
       (s : Slot) → IsLiveSlot nodes before.cells s → StaysLive r nodes before.cells after.cells s
 
--- the cells of all tables that the steps ask for: of the first ones, of each that a step makes, and of the last product
+-- the cells of all tables that the steps ask for: of the first ones, of each that a step makes, and
+-- of the last product
 abbrev pub sum_cells :
     {C : Type 0} → Cells C → List NodeView → List RuleView → List ℕ → List ℕ → ℕ
 sum_cells c nodes p vs steps = sum_by (first_cells c nodes p) vs
     + made_cells nodes steps (scopes_of (tables_at c nodes p vs))
     + counted_cells nodes (joined (tables_left c nodes p vs steps))
 
--- and the work: that of the steps, and at the end the cells of the product times the number of tables left
+-- and the work: that of the steps, and at the end the cells of the product times the number of
+-- tables left
 abbrev pub sum_work :
     {C : Type 0} → Cells C → List NodeView → List RuleView → List ℕ → List ℕ → ℕ
 sum_work c nodes p vs steps = steps_work nodes steps (scopes_of (tables_at c nodes p vs))

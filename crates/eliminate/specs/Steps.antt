@@ -87,8 +87,8 @@ pub record Lists {C : Type 0}
   pub leads : tables ++ map (first_table c nodes p) rest ≡ map (first_table c nodes p) all
   pub room : spent + sum_by (first_cells c nodes p) rest ≡ sum_by (first_cells c nodes p) all
 
--- between steps: the steps to come lead from the tables that stand to what all steps make of the first ones, their
--- sums fit, each finds a table that holds its node, and what they make has room
+-- between steps: the steps to come lead from the tables that stand to what all steps make of the
+-- first ones, their sums fit, each finds a table that holds its node, and what they make has room
 pub record Between {C : Type 0}
     (r : Ring C) (nodes : List NodeView) (before now : WorkspaceView C) (slots : List Slot)
     (rest steps : List ℕ) (first : List (Table C)) (cells : ℕ) : Type 0 where

@@ -8,8 +8,9 @@ ghost use Rattle.eliminate.specs.Limits.{Spends};
 use maid_model::{COUNT_END, Diagram};
 use node_sets::NodeSet;
 
-/// How many cells a call may append, and how much work it may do: at each step the cells of the joined set times the
-/// number of tables joined, and at the end the cells of the product times the number of tables multiplied.
+/// How many cells a call may append, and how much work it may do: at each step the cells of the
+/// joined set times the number of tables joined, and at the end the cells of the product times the
+/// number of tables multiplied.
 #[derive(Clone, Copy, Debug, PartialEq, Eq)]
 pub struct Limits {
     pub cells: usize,
@@ -19,7 +20,8 @@ pub struct Limits {
 /// Where counts stop.
 const END: usize = COUNT_END as usize;
 
-/// How many cells a table over the scope has. The count stops at its end, and goes over no node that the scope lacks.
+/// How many cells a table over the scope has. The count stops at its end, and goes over no node
+/// that the scope lacks.
 pub fn count_cells(diagram: &Diagram, scope: &NodeSet) -> usize
     ensures { result ≡ counted_cells diagram.now.nodes (holds scope.now) }
 {
@@ -36,7 +38,8 @@ pub fn count_cells(diagram: &Diagram, scope: &NodeSet) -> usize
     cells
 }
 
-/// What is left after a table of so many cells, for which a join of so many cells goes over so many tables.
+/// What is left after a table of so many cells, for which a join of so many cells goes over so many
+/// tables.
 pub fn spend(left: Limits, cells: usize, joined: usize, tables: usize) -> Option<Limits>
     ensures { Spends left cells (joined * tables) result }
 {

@@ -23,7 +23,8 @@ pub struct Play<'a> {
     pub profile: &'a Profile,
 }
 
-/// The nodes whose own tables the plan has: those that it keeps or eliminates, but for the decision left out.
+/// The nodes whose own tables the plan has: those that it keeps or eliminates, but for the decision
+/// left out.
 fn ruled_nodes(plan: &Plan) -> NodeSet
     requires keep { (v : ℕ) → Contains plan.now.plan.keep v → v < MOST_NODES }
     requires steps { (v : ℕ) → Contains plan.now.steps v → v < MOST_NODES }
@@ -39,7 +40,8 @@ fn ruled_nodes(plan: &Plan) -> NodeSet
     ruled
 }
 
-/// Appends the first table of the node, and writes its slot behind the first `count`. Gives how many there are now.
+/// Appends the first table of the node, and writes its slot behind the first `count`. Gives how
+/// many there are now.
 pub fn put_table<C: Cell>(
     work: &mut Workspace<C>,
     play: &Play,
@@ -59,8 +61,8 @@ pub fn put_table<C: Cell>(
     count + 1
 }
 
-/// Appends the first tables of the plan, and lists their slots: those of its nodes in text order, but for the decision
-/// left out, and that of its utility. Gives how many there are.
+/// Appends the first tables of the plan, and lists their slots: those of its nodes in text order,
+/// but for the decision left out, and that of its utility. Gives how many there are.
 pub fn first_tables<C: Cell>(
     work: &mut Workspace<C>,
     plan: &Plan,

@@ -1,4 +1,5 @@
-//! Plans of elimination, and sums of any tables within limits, run over the tables of one workspace.
+//! Plans of elimination, and sums of any tables within limits, run over the tables of one
+//! workspace.
 #![tactic(auto)]
 
 mod counts;

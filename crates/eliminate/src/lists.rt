@@ -7,8 +7,8 @@ use node_sets::{MOST_NODES, NodeSet};
 use std::alloc::{AllocError, Global};
 use std::marker::Model;
 
-/// What runs write their places and slots into, one run after another. Each run sets what it reads, so there is nothing
-/// to know of what another has left.
+/// What runs write their places and slots into, one run after another. Each run sets what it reads,
+/// so there is nothing to know of what another has left.
 #[derive(Drop)]
 pub struct RunLists {
     /// For each node of a step the places of the slots that are filed under it.

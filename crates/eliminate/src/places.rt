@@ -1,5 +1,6 @@
-//! Slots at places. Each is filed under the node of its scope that a run eliminates first, so that the step of a node
-//! looks at no other slot: by then no live slot holds a node that was eliminated before.
+//! Slots at places. Each is filed under the node of its scope that a run eliminates first, so that
+//! the step of a node looks at no other slot: by then no live slot holds a node that was eliminated
+//! before.
 
 ghost use Rattle.std.specs.Prelude.{◌≡◌, ◌+◌, ◌<◌, ◌≤◌, ◌↔◌, ℕ, [], ◌∷◌, ◌++◌, length, take, All, MatchOption};
 ghost use Rattle.node_sets.specs.declared.sets.TheConstants.{MOST_NODES};
@@ -56,8 +57,8 @@ pub fn gather_live(slots: &[Slot], places: &Places, found: &mut [Slot]) -> usize
     gather(before(slots, places.made), &places.live, found)
 }
 
-/// Writes for each node its first position among the steps, or how many these are where it has none, and takes the places
-/// of the steps' nodes away. No slot is ever filed under another node.
+/// Writes for each node its first position among the steps, or how many these are where it has
+/// none, and takes the places of the steps' nodes away. No slot is ever filed under another node.
 pub fn set_order(ranks: &mut [usize], at: &mut [NodeSet], steps: &[usize])
     requires same { length at.old ≡ length ranks.old }
     requires steps { All (λ v. v < length ranks.old) steps.now }
@@ -96,8 +97,8 @@ fn first_of(order: &Order, scope: &NodeSet) -> Option<usize>
     }
 }
 
-/// Adds the place to those of the node of the scope that is eliminated first. One node is enough, as no slot lives on
-/// behind the step of its first node.
+/// Adds the place to those of the node of the scope that is eliminated first. One node is enough,
+/// as no slot lives on behind the step of its first node.
 fn file_place(at: &mut [NodeSet], order: &Order, scope: &NodeSet, place: usize)
     requires same { length at.old ≡ length order.now.ranks.now }
     requires apart { AreApart order.now.ranks.now order.now.count }
@@ -185,7 +186,8 @@ fn pack(
     all_live(slots, at, order, count)
 }
 
-/// Puts the slot behind the live ones. Where no place is left, the live ones are moved to the first places before.
+/// Puts the slot behind the live ones. Where no place is left, the live ones are moved to the first
+/// places before.
 pub fn put_slot(
     slots: &mut [Slot],
     at: &mut [NodeSet],

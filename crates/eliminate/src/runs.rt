@@ -18,7 +18,8 @@ use maid_model::{Diagram, Profile};
 use node_sets::{MOST_NODES, NodeSet};
 use size_precheck::Plan;
 
-/// Ends all tables of the workspace: no cell is left, and there is as much room as after `reserve`. It takes no memory.
+/// Ends all tables of the workspace: no cell is left, and there is as much room as after `reserve`.
+/// It takes no memory.
 pub fn release<C: Cell>(work: &mut Workspace<C>)
     ensures { work.new ≡ record { cells = []; spare = work.old.spare + length work.old.cells } }
 {
@@ -57,7 +58,8 @@ pub fn eliminate<C: Cell>(
     put_slot(slots, at, order, left, joined, &slot)
 }
 
-/// The run of the plan with these lists to write its places and slots into. No step leaves more slots than it found.
+/// The run of the plan with these lists to write its places and slots into. No step leaves more
+/// slots than it found.
 fn run_with<C: Cell>(
     work: &mut Workspace<C>,
     plan: &Plan,
@@ -94,7 +96,8 @@ fn run_with<C: Cell>(
     work.product(diagram, before(joined, count))
 }
 
-/// The run of the plan with lists for any number of nodes, into which it first writes the order of its steps.
+/// The run of the plan with lists for any number of nodes, into which it first writes the order of
+/// its steps.
 fn run_in_order<C: Cell>(
     work: &mut Workspace<C>,
     plan: &Plan,
@@ -127,11 +130,13 @@ fn run_in_order<C: Cell>(
     run_with(work, plan, diagram, profile, &order, at, slots, joined)
 }
 
-/// Runs the plan: makes its first tables, eliminates its nodes in their order, and multiplies the tables that are left
-/// (variable elimination: Zhang and Poole 1996). The slot is over the kept nodes, the lowest slowest, and in each world
-/// its cell is the sum, over the states of the plan's other nodes, of the product of the plan's tables. The plan's cells,
-/// of which the count has not stopped, must be within the room that is left, and as many are appended. It multiplies and
-/// adds cells about as often as the plan's work counts, sets the lists as far as there are nodes, and takes no memory.
+/// Runs the plan: makes its first tables, eliminates its nodes in their order, and multiplies the
+/// tables that are left (variable elimination: Zhang and Poole 1996). The slot is over the kept
+/// nodes, the lowest slowest, and in each world its cell is the sum, over the states of the plan's
+/// other nodes, of the product of the plan's tables. The plan's cells, of which the count has not
+/// stopped, must be within the room that is left, and as many are appended. It multiplies and adds
+/// cells about as often as the plan's work counts, sets the lists as far as there are nodes, and
+/// takes no memory.
 pub fn run_plan<C: Cell>(
     work: &mut Workspace<C>,
     lists: &mut RunLists,

@@ -37,7 +37,8 @@ fn first_scope(diagram: &Diagram, node: usize) -> NodeSet
     scope
 }
 
-/// Appends the first tables of the nodes, and lists their slots. Gives what is left of the limits, where they are kept.
+/// Appends the first tables of the nodes, and lists their slots. Gives what is left of the limits,
+/// where they are kept.
 fn list_tables<C: Cell>(
     work: &mut Workspace<C>,
     play: &Play,
@@ -64,7 +65,8 @@ fn list_tables<C: Cell>(
     Some(left)
 }
 
-/// What is left of the limits after a step, which makes a table over the nodes of the live slots that hold the node.
+/// What is left of the limits after a step, which makes a table over the nodes of the live slots
+/// that hold the node.
 fn spend_on_step(
     diagram: &Diagram,
     slots: &[Slot],
@@ -216,10 +218,11 @@ fn sum_in_order<C: Cell>(
     )
 }
 
-/// Sums tables, where that keeps the limits: makes the first tables of these nodes, eliminates the nodes of `steps` in
-/// their order, and multiplies the tables that are left. The slot is over the nodes of these, the lowest slowest, and
-/// in each world its cell is their product. `None` where the tables have more cells together than the limits allow, or
-/// ask for more work. It takes no memory, and goes over no joined set before it knows that the limits allow that.
+/// Sums tables, where that keeps the limits: makes the first tables of these nodes, eliminates the
+/// nodes of `steps` in their order, and multiplies the tables that are left. The slot is over the
+/// nodes of these, the lowest slowest, and in each world its cell is their product. `None` where
+/// the tables have more cells together than the limits allow, or ask for more work. It takes no
+/// memory, and goes over no joined set before it knows that the limits allow that.
 pub fn sum_tables<C: Cell>(
     work: &mut Workspace<C>,
     lists: &mut RunLists,

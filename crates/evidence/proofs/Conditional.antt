@@ -1,4 +1,5 @@
--- The sums of plans at a state of x as conditional expected utilities, and whether the state is possible.
+-- The sums of plans at a state of x as conditional expected utilities, and whether the state is
+-- possible.
 use Rattle.std.proofs.Common.{◌≡◌, ◌≢◌, ◌∙◌, ℕ, ◌+◌, ◌*◌, ◌^◌, ◌<◌, List, [], ◌∷◌, ◌++◌, Contains, None, length, get_or, sym, ap, subst, arith, ℤ, pos, ◌*ℤ◌, nat_abs, ◌↔◌, zero-mul, length-append}
 use Rattle.std.proofs.lemmas.Int.{ints}
 use Rattle.std.proofs.lemmas.List.{get_or_append_left}

@@ -1,4 +1,5 @@
--- What a `?` hands on: a fault is the first after it as before, and where memory ran out nothing is said of the diagram.
+-- What a `?` hands on: a fault is the first after it as before, and where memory ran out nothing is
+-- said of the diagram.
 use Rattle.std.proofs.Common.{◌≡◌, Option, None, Some, Result, Ok, Err, inl, inr}
 use Rattle.std.proofs.lemmas.Result.{err_from_is_err_and}
 use Rattle.std.specs.Result.{IsErr, IsErrAnd}

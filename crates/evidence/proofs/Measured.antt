@@ -133,7 +133,8 @@ module _ (nodes : List NodeView) (plans : List PlanView) (x : ℕ) where
       go Utility e = subst (λ l. IsSizeOfAll nodes l after) (append_assoc plans (utilities_to n) (plan_given x (Some n) ∷ []) ∙ sym (plans_are Utility e)) (size_push nodes (plans_to n) (plan_given x (Some n)) before after c (adds.utility e))
 
 -- ---- the limits
--- a diagram has one order of solving and its plans one size, so plans that keep the limits are small enough
+-- a diagram has one order of solving and its plans one size, so plans that keep the limits are
+-- small enough
 pub small_given : (d : DiagramView) (order : List ℕ) (x : ℕ) (size : Size) → OneSize → IsRelianceOrder d.nodes order → IsSizeOfAll d.nodes (plans_given d.nodes order x) size → KeepsPlanLimits size → IsSmallEnoughGiven d x
 small_given d order x size one is sized keeps other given =
     let orders : given.order ≡ order = order_one (IsDecision d.nodes) (ReliesOn d.nodes) given.order order given.is_order is in

@@ -1,4 +1,5 @@
--- The plans that keep x sum to the weight of the worlds with a state at x, and to a utility's part of a gain over them, but for the totals that they lack.
+-- The plans that keep x sum to the weight of the worlds with a state at x, and to a utility's part
+-- of a gain over them, but for the totals that they lack.
 use Rattle.std.proofs.Common.{◌≡◌, ◌⊎◌, ◌∙◌, ℕ, ◌*◌, ◌<◌, false, cond, eqb, filter, List, [], ◌∷◌, Option, Some, None, length, refl, sym, ap, inl, inr, ℤ, pos, ◌*ℤ◌}
 use Rattle.std.proofs.Math.Path.{fun_ext}
 use Rattle.maid_model.specs.Gains.{sum_worlds, weight}

@@ -1,4 +1,5 @@
--- Where x descends from no decision, the plan that keeps x alone has no rule: it sums to the same under all rules.
+-- Where x descends from no decision, the plan that keeps x alone has no rule: it sums to the same
+-- under all rules.
 use Rattle.std.proofs.Common.{◌≡◌, ◌∙◌, ℕ, ◌++◌, List, [], None, true, not, ap, refl, sym, ℤ, nat_abs}
 use Rattle.cell_rings.specs.Rings.{mass_ring}
 use Rattle.finite_sums.specs.Members.{Among}

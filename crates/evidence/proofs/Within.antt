@@ -1,4 +1,5 @@
--- The plans that keep x in an agent's scope: their sums are those of the whole, but for the totals left out, and they keep the scope's P.
+-- The plans that keep x in an agent's scope: their sums are those of the whole, but for the totals
+-- left out, and they keep the scope's P.
 use Rattle.std.proofs.Common.{◌≡◌, ◌∙◌, ℕ, ◌*◌, ◌<◌, ◌≤◌, Bool, true, false, cond, List, [], ◌∷◌, Option, Some, None, Contains, length, slice_index_or, refl, sym, ap, subst, inl, inr, eqb, ℤ, pos, ◌*ℤ◌, nat_abs, le_trans, le_refl, le_of_eq, mul-le-mul}
 use Rattle.maid_model.specs.declared.diagrams.Kind.TheVariants.{Utility}
 use Rattle.maid_model.specs.Gains.{greatest_abs, sum_worlds, weight}
@@ -95,7 +96,8 @@ module _ (nodes : List NodeView) (x agent : ℕ) (g : IsGraph nodes) (x_in : x <
     pub lacking_positive : 0 < lacking
     lacking_positive = product_positive (chance_factor nodes) (lacking_in nodes kept plan) (chances_positive nodes h)
 
-    -- the totals of its tables, times the chance totals that it lacks, are P where no rule's total counts
+    -- the totals of its tables, times the chance totals that it lacks, are P where no rule's total
+    -- counts
     pub tables_within : (p : List RuleView) → ((v : ℕ) → Among v (ruled_nodes nodes plan) → weight_total nodes p v ≡ chance_factor nodes v)
         → nat_product_over (weight_total nodes p) (ruled_nodes nodes plan) * lacking ≤ product_given nodes x agent
     tables_within p factor = tables_fit nodes kept closed plan inside (chance_factor nodes) (chances_positive nodes h) (weight_total nodes p) (chance_factor nodes) (λ v m. le_of_eq (factor v m)) (λ v m. le_refl (chance_factor nodes v))
@@ -112,7 +114,8 @@ module _ (nodes : List NodeView) (x agent : ℕ) (g : IsGraph nodes) (x_in : x <
     abbrev pub left : ℕ
     left = mass_left_out nodes p kept
 
-    -- what a plan of the scope lacks: the totals left out, and the chance totals that it lacks in the scope
+    -- what a plan of the scope lacks: the totals left out, and the chance totals that it lacks in
+    -- the scope
     pub lacks : (utility : Option ℕ) → ((v : ℕ) → in_plan nodes (plan_given x utility) v ≡ true → Among v kept) → missing_total nodes p (plan_given x utility) ≡ left * chances_lacking nodes x agent utility
     lacks utility inside =
         missing_is nodes p kept closed (plan_given x utility) inside

@@ -1,11 +1,13 @@
--- The further scopes of a diagram under evidence, one for each agent, and the first whose bound fails.
+-- The further scopes of a diagram under evidence, one for each agent, and the first whose bound
+-- fails.
 use Rattle.std.specs.Prelude.{ℕ, ◌<◌, ◌≤◌, max}
 use Rattle.maid_model.specs.Diagrams.{greatest_number}
 use Rattle.maid_model.specs.Scopes.{PassesInScope, chance_factor}
 use Rattle.maid_model.specs.Views.{DiagramView}
 use Rattle.weight_scale.specs.Given.{bound_given, product_given, scope_given}
 
--- how many further scopes there are: one for each agent, and where there is no agent one all the same, of no utility
+-- how many further scopes there are: one for each agent, and where there is no agent one all the
+-- same, of no utility
 abbrev pub further_scopes : DiagramView → ℕ
 further_scopes d = max 1 d.agents
 

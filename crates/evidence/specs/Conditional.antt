@@ -7,8 +7,8 @@ use Rattle.maid_model.specs.Subgames.{IsSubgamePerfect, OwnsAll}
 use Rattle.maid_model.specs.Views.{NodeView, DiagramView, RuleView, SolvedView}
 use Rattle.reach_laws.specs.Evidence.{IsNoBetterGiven, all_seeing, all_seeing_diagram, gain_given, mass_given}
 
--- the agent's conditional expected utility under the profile: its gain over the worlds with this state at x, over
--- their weight, where utilities are whole numbers of one part in `scale`
+-- the agent's conditional expected utility under the profile: its gain over the worlds with this
+-- state at x, over their weight, where utilities are whole numbers of one part in `scale`
 abbrev pub IsExpectedGiven : List NodeView → ℕ → List RuleView → ℕ → ℕ → ℕ → Ratio → Type 0
 IsExpectedGiven nodes scale p agent x state r =
     IsFraction r (gain_given nodes p agent x state) (nat_abs (mass_given nodes p x state) * scale)

@@ -1,5 +1,6 @@
--- What refuses a diagram under evidence: the first that applies of evidence below a decision, too large rules, the
--- relevance cycle, the weight bound, too large plans, and evidence that is impossible.
+-- What refuses a diagram under evidence: the first that applies of evidence below a decision, too
+-- large rules, the relevance cycle, the weight bound, too large plans, and evidence that is
+-- impossible.
 use Rattle.std.specs.Prelude.{ℕ, Option, Some, None}
 use Rattle.first_fault.specs.Passes.{Pass, rule, ◌▸◌}
 use Rattle.maid_model.specs.Views.{DiagramView}
@@ -53,7 +54,8 @@ given_size_pass d x None = IsSmallEnoughGiven d x
 given_size_pass d x (Some (solver.TooLarge cells work)) = IsTooLargeGiven d x cells work
 given_size_pass d x (Some fault) = ⊥
 
--- the limits of the diagram where x is given: the further scopes stand after all others, and before the sizes
+-- the limits of the diagram where x is given: the further scopes stand after all others, and before
+-- the sizes
 abbrev pub limits_pass : DiagramView → ℕ → Pass solver.FaultView
 limits_pass d x = bound_pass d ▸ further_pass d x ▸ given_size_pass d x
 

@@ -26,7 +26,8 @@ pub record AddsUtility (nodes : List NodeView) (x v : ℕ) (before after : Size)
       (node_at nodes v).kind ≡ Utility → AddsPlan nodes (plan_given x (Some v)) before after
   pub other : (node_at nodes v).kind ≢ Utility → after ≡ before
 
--- the size with the plans more that keep x and have a utility: whichever plans it was the size of before
+-- the size with the plans more that keep x and have a utility: whichever plans it was the size of
+-- before
 abbrev pub AddsUtilities : List NodeView → ℕ → Size → Size → Type 0
 AddsUtilities nodes x before after = (plans : List PlanView) → IsSizeOfAll nodes plans before
     → IsSizeOfAll nodes (plans ++ map (λ u. plan_given x (Some u)) (utility_list nodes)) after

@@ -11,6 +11,7 @@ pub record IsBelowDecision (nodes : List NodeView) (x : ℕ) : Type 0 where
   pub is_decision : IsDecision nodes decision
   pub path : Descends (Arc nodes) decision x
 
--- no decision has too many parents or too large a rule, and all rules together have not too many cells
+-- no decision has too many parents or too large a rule, and all rules together have not too many
+-- cells
 pub record KeepsRules (nodes : List NodeView) : Type 0 where
   pub each : (d : ℕ) → IsDecision nodes d → RulesFit nodes d

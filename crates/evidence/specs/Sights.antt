@@ -1,4 +1,5 @@
--- Which decisions don't see x, and the limits of one decision's rule. Only private functions cite it.
+-- Which decisions don't see x, and the limits of one decision's rule. Only private functions cite
+-- it.
 use Rattle.std.specs.Prelude.{◌≡◌, ℕ, ◌≤◌, Bool, ◌&&◌, not, ◌==◌, if◌then◌else◌, List, [], ◌∷◌, ◌++◌, length, Option, MatchOption}
 use Rattle.std.specs.List.{list_any}
 use Rattle.maid_model.specs.declared.limits.TheConstants.{MOST_CELLS, MOST_PARENTS}

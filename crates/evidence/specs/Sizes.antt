@@ -11,7 +11,8 @@ use Rattle.rule_solver.specs.Faults.{KeepsPlanLimits}
 use Rattle.rule_solver.specs.declared.spaces.Workspaces.{Workspaces}
 use Rattle.rule_solver.specs.Rooms.{AreReady, HasCellsAtMost}
 
--- the plan that keeps x, perhaps with a utility: without one it sums to the weight of the worlds with a state at x
+-- the plan that keeps x, perhaps with a utility: without one it sums to the weight of the worlds
+-- with a state at x
 abbrev pub plan_given : ℕ → Option ℕ → PlanView
 plan_given x utility = plan_of (x ∷ []) None utility
 

@@ -1,4 +1,5 @@
--- What plans sum to at a given state of x, and what that gives to an agent. Only private functions cite it.
+-- What plans sum to at a given state of x, and what that gives to an agent. Only private functions
+-- cite it.
 use Rattle.std.specs.Prelude.{◌≡◌, ◌≢◌, ◌↔◌, ℕ, ◌<◌, ◌≤◌, ◌*◌, ◌^◌, List, length, slice_index_or, Contains, Option, Some, None, ℤ, pos, ◌*ℤ◌, nat_abs, true, if◌then◌else◌}
 use Rattle.maid_model.specs.declared.answers.Ratio.{Ratio}
 use Rattle.maid_model.specs.declared.diagrams.Kind.TheVariants.{Utility}
@@ -20,7 +21,8 @@ use Rattle.evidence.specs.declared.stakes.Stake.{Stake}
 use Rattle.evidence.specs.Bounds.{KeepsBoundsGiven}
 use Rattle.evidence.specs.Sizes.{plan_given}
 
--- a chance node or decision x with this state, and a profile of pure rules, within the bounds of the further scopes
+-- a chance node or decision x with this state, and a profile of pure rules, within the bounds of
+-- the further scopes
 pub record IsGivenSetting (d : DiagramView) (p : List RuleView) (x state : ℕ) : Type 0 where
   pub within : x < length d.nodes
   pub kind : (node_at d.nodes x).kind ≢ Utility
@@ -67,7 +69,8 @@ abbrev pub chances_lacking : List NodeView → ℕ → ℕ → Option ℕ → �
 chances_lacking nodes x agent utility = nat_product_over (chance_factor nodes) (lacking_in nodes
     (scope_given nodes x agent) (plan_given x utility))
 
--- what a node gives to an agent's gain: a utility of the agent its worth times the totals that its plan lacks
+-- what a node gives to an agent's gain: a utility of the agent its worth times the totals that its
+-- plan lacks
 abbrev pub share_given : List NodeView → ℕ → ℕ → List ℤ → ℕ → ℤ
 share_given nodes x agent worths v = if is_utility_of nodes agent v
     then slice_index_or worths v (pos 0) *ℤ pos (chances_lacking nodes x agent (Some v))
@@ -81,7 +84,8 @@ scope_gain_given nodes x agent worths = sum_each (share_given nodes x agent wort
 abbrev pub scope_mass_given : List NodeView → ℕ → ℕ → ℕ → ℕ
 scope_mass_given nodes x agent mass = mass * chances_lacking nodes x agent None
 
--- an agent within its bound, with its scope, and a positive weight and worths that keep the scope's P
+-- an agent within its bound, with its scope, and a positive weight and worths that keep the scope's
+-- P
 pub record IsGivenStake
     (d : DiagramView) (x agent mass : ℕ) (worths : List ℤ) (scope : NodeSet) : Type 0 where
   pub is_diagram : IsDiagram d

@@ -1,4 +1,5 @@
--- A fault of the solver as one of a diagram under evidence, and the stages once there is an order of solving.
+-- A fault of the solver as one of a diagram under evidence, and the stages once there is an order
+-- of solving.
 use Rattle.std.specs.Prelude.{◌≡◌, ℕ, Option, Some, None}
 use Rattle.first_fault.specs.Passes.{Pass, ◌▸◌}
 use Rattle.maid_model.specs.Views.{DiagramView}

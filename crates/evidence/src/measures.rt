@@ -88,8 +88,8 @@ fn add_utility(
     }
 }
 
-/// The plan that keeps the node with each utility, at the place of the utility, and the size with all
-/// of them counted in.
+/// The plan that keeps the node with each utility, at the place of the utility, and the size with
+/// all of them counted in.
 fn add_utilities(
     alloc: Global,
     diagram: &Diagram,

@@ -1,4 +1,5 @@
--- What fits for the tables of slots fits for the cells at their places, and the cells that walks make are those of the tables.
+-- What fits for the tables of slots fits for the cells at their places, and the cells that walks
+-- make are those of the tables.
 use Rattle.std.proofs.Common.{◌≡◌, ◌∙◌, ℕ, zero, suc, ◌+◌, ◌*◌, ◌≤◌, Bool, true, false, cond, not, ◌&&◌, ◌||◌, ◌==◌, List, [], ◌∷◌, take, length, refl, sym, ap, subst, arith, inl, inr}
 use Rattle.std.proofs.Math.Path.{fun_ext}
 use Rattle.std.proofs.lemmas.Bool.{cases_eq}

@@ -1,4 +1,5 @@
--- One level of a copy: the states of the first step one after another, each with the copy over the steps below.
+-- One level of a copy: the states of the first step one after another, each with the copy over the
+-- steps below.
 use Rattle.std.proofs.Common.{◌≡◌, ◌∙◌, ℕ, zero, suc, ◌+◌, ◌-◌, ◌*◌, ◌^◌, ◌<◌, ◌≤◌, List, [], ◌∷◌, ◌++◌, take, drop, set, length, get_or, refl, sym, ap, subst, arith, All, append_assoc, inl, inr}
 use Rattle.std.proofs.Math.Nat.{mul-le-mul_right}
 use Rattle.std.proofs.lemmas.List.{drop_more, drop_all, take_more_set, map_more, length-append, get_or_append_left, get_or-append_right}

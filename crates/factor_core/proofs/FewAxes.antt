@@ -1,4 +1,5 @@
--- Walks whose axes are counted: no axis, one or two, and what a walk over a list says of the walk over an equal one.
+-- Walks whose axes are counted: no axis, one or two, and what a walk over a list says of the walk
+-- over an equal one.
 use Rattle.std.proofs.Common.{◌≡◌, ◌≢◌, ◌==◌, cond, ℕ, ◌+◌, ◌*◌, ◌<◌, ◌≤◌, true, false, List, [], ◌∷◌, length, drop, get_or, refl, sym, ap, subst, ◌∙◌, arith}
 use Rattle.std.proofs.lemmas.Bool.{false≢true}
 use Rattle.std.proofs.lemmas.Bool.Decides.{nat_tests}

@@ -1,4 +1,5 @@
--- A walk along an order of the nodes that fills a table of noughts: it may begin, and each world's sum comes to its cell.
+-- A walk along an order of the nodes that fills a table of noughts: it may begin, and each world's
+-- sum comes to its cell.
 use Rattle.std.proofs.Common.{◌≡◌, ℕ, zero, suc, ◌+◌, ◌-◌, ◌*◌, ◌^◌, ◌<◌, ◌≤◌, Bool, true, false, cond, List, [], ◌∷◌, ◌++◌, length, get_or, sym, ap, subst, ◌∙◌, arith, inl, inr}
 use Rattle.std.specs.Prelude.{All}
 use Rattle.std.specs.List.{list_any}
@@ -68,7 +69,8 @@ pub record CanFill {C : Type 0} (r : Ring C) (cells : List C) (counts : List ℕ
   pub nought : (p : ℕ) → cell_at r out p ≡ r.nought
   pub products : (w : World) → InRange (states_in counts) w → ProductFits r cells 1 (places_in counts slots w)
 
--- an order of the nodes along which a walk that sums x comes to each world's places, in the slots and in the result
+-- an order of the nodes along which a walk that sums x comes to each world's places, in the slots
+-- and in the result
 pub record LeadsAlong (counts : List ℕ) (slots : List Slot) (scope : NodeSet) (x : ℕ) (order : List ℕ) : Type 0 where
   pub below : All (λ v. v < length counts) order
   pub once : AllOnce order

@@ -63,7 +63,8 @@ module _ (counts : List ℕ) (h : ℕ → Bool) (kept : ℕ → Bool) (x state :
       go true false e k = absurd (let no : true ≡ false = k in cc)
       go false false e k = refl
 
-  -- the walk over the other nodes, from the state's cells on, comes to the place in the world with that state
+  -- the walk over the other nodes, from the state's cells on, comes to the place in the world with
+  -- that state
   pub restrict_place : (w : World) → state * stride_of (states_in counts) (length counts) h x + out_place (stride_of (states_in counts) (length counts) h) (listed kept 0 (length counts)) w ≡ place_from (states_in counts) h (with_state w x state) 0 (length counts)
   restrict_place w =
       let f = stride_of (states_in counts) (length counts) h in

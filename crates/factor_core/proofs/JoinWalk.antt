@@ -1,4 +1,5 @@
--- The walk of a join may begin, and what it adds are the cells of the join: the joined node stands in the order of the others.
+-- The walk of a join may begin, and what it adds are the cells of the join: the joined node stands
+-- in the order of the others.
 use Rattle.std.proofs.Common.{◌≡◌, ℕ, suc, ◌+◌, ◌-◌, ◌<◌, false, cond, List, [], ◌∷◌, ◌++◌, take, drop, length, get_or, refl, sym, ap, subst, ◌∙◌, arith, inl, inr}
 use Rattle.std.specs.Prelude.{All}
 use Rattle.std.specs.List.{list_any}

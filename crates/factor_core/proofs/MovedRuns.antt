@@ -1,4 +1,5 @@
--- A walk over one axis along which one operand runs, whichever it is, and such walks at the states of a summed axis.
+-- A walk over one axis along which one operand runs, whichever it is, and such walks at the states
+-- of a summed axis.
 use Rattle.std.proofs.Common.{◌≡◌, ℕ, zero, suc, ◌+◌, ◌*◌, ◌-◌, ◌<◌, ◌≤◌, List, [], ◌∷◌, take, drop, length, refl, sym, ap, subst, ◌∙◌, arith, get_or, Bool, true, false}
 use Rattle.cell_rings.specs.Rings.{Ring, IsRing, IsSize, mass_ring}
 use Rattle.cell_rings.specs.RingLaws.{mass_is_ring, mass_sized}

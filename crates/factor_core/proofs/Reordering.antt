@@ -1,4 +1,5 @@
--- The nodes of a scope in another order: they are shuffled, so sums and products over them are the same.
+-- The nodes of a scope in another order: they are shuffled, so sums and products over them are the
+-- same.
 use Rattle.std.proofs.Common.{◌≡◌, ◌∙◌, ◌↔◌, ℕ, suc, ◌+◌, ◌*◌, ◌<◌, Bool, true, List, [], ◌∷◌, ◌++◌, length, get_or, refl, sym, ap, arith, All, Contains}
 use Rattle.std.proofs.lemmas.List.{get_or_default}
 use Rattle.finite_sums.specs.Sums.{World}

@@ -1,4 +1,5 @@
--- A workspace as a list of cells of which the first are used: what was written behind them was appended to it.
+-- A workspace as a list of cells of which the first are used: what was written behind them was
+-- appended to it.
 use Rattle.std.proofs.Common.{◌≡◌, ◌∙◌, ℕ, ◌+◌, ◌-◌, ◌≤◌, List, take, length, sym, ap, subst, arith}
 use Rattle.std.proofs.lemmas.List.{with_items_is}
 use Rattle.std.specs.Global.{Vec}

@@ -264,8 +264,9 @@ rows_with counts slots strides kept at x fits room mine others =
       ]
     ]
 
--- The nodes of a scope, from the last to the first, among which are those of the slots within a range: the sizes are
--- those from each number on that stands between the nodes that wait and those that were taken in.
+-- The nodes of a scope, from the last to the first, among which are those of the slots within a
+-- range: the sizes are those from each number on that stands between the nodes that wait and those
+-- that were taken in.
 module _ (counts : List ℕ) (slots : List Slot) (low high : ℕ) (small : high ≤ length counts) (kept : List ℕ) (has : HasNodes counts slots low high kept) where
   pub kept_rises : (i j : ℕ) → i < j → j < length kept → get_or kept i 0 < get_or kept j 0
   kept_rises i j a l = subst (λ xs. j < length xs → get_or xs i 0 < get_or xs j 0) (sym has.listing) (λ m. listed_rises has.scope (length counts) 0 i j a m) l

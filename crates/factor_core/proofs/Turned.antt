@@ -1,4 +1,5 @@
--- A walk along which the first of two operands runs: a product has the same value with its factors turned.
+-- A walk along which the first of two operands runs: a product has the same value with its factors
+-- turned.
 use Rattle.std.proofs.Common.{◌≡◌, ℕ, ◌+◌, ◌*◌, ◌-◌, ◌≤◌, List, [], ◌∷◌, length, refl, sym, ap, subst, ◌∙◌, arith, get_or, cond, ◌==◌}
 use Rattle.cell_rings.specs.Rings.{Ring, IsRing, IsSize, mass_ring}
 use Rattle.cell_rings.specs.RingLaws.{mass_is_ring}

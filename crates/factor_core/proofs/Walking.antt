@@ -1,4 +1,5 @@
--- One level of a walk: the states of the first axis one after another, each with the walk over the axes below.
+-- One level of a walk: the states of the first axis one after another, each with the walk over the
+-- axes below.
 use Rattle.std.proofs.Common.{◌≡◌, ℕ, zero, suc, ◌+◌, ◌*◌, ◌^◌, ◌<◌, ◌≤◌, List, [], ◌∷◌, drop, length, refl, sym, ap, subst, ◌∙◌, arith, get_or}
 use Rattle.std.specs.Prelude.{All}
 use Rattle.std.proofs.lemmas.List.{ext_get_or, drop_more, length-drop, get_or-drop}
@@ -27,8 +28,8 @@ three_axes (a ∷ b ∷ []) d h = absurd (omega arith)
 three_axes (a ∷ b ∷ c ∷ []) d h = refl
 three_axes (a ∷ b ∷ c ∷ e ∷ axes) d h = absurd (omega arith)
 
--- how far a loop over the states of the first axis is: the places of the state s, the cell of the result there, and what
--- the states before it have added
+-- how far a loop over the states of the first axis is: the places of the state s, the cell of the
+-- result there, and what the states before it have added
 pub record HasReached {C : Type 0} (r : Ring C) (cells : List C) (a : Axis) (rest : List Axis) (strides places : List ℕ) (out : List C) (at s : ℕ) (here : List ℕ) (place : ℕ) (now : List C) : Type 0 where
   pub moved : here ≡ shifted s strides places
   pub stands : place ≡ at + s * a.out

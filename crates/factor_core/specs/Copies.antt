@@ -66,7 +66,8 @@ pub record CanCopy (Fit : Type 0) (n : ℕ) (steps : List Step) (from len at : �
   pub short : n ≤ 2 ^ 32
   pub room : at + count_of_steps steps ≤ len
 
--- how far apart the cells of neighbouring states of u stand, in cells with the first of these nodes slowest
+-- how far apart the cells of neighbouring states of u stand, in cells with the first of these nodes
+-- slowest
 abbrev pub list_stride : (ℕ → ℕ) → List ℕ → ℕ → ℕ
 list_stride count [] u = 0
 list_stride count (x ∷ xs) u = if x == u then rows_under count xs else list_stride count xs u
@@ -122,7 +123,8 @@ abbrev pub CopiesStraight :
 CopiesStraight r kind source counts list at old new =
     HasCopied r (kind.cells source) (steps_in counts list list) 0 at old new
 
--- they were copied there with the first of the order slowest, from where the first of the list is slowest
+-- they were copied there with the first of the order slowest, from where the first of the list is
+-- slowest
 abbrev pub CopiesTo : {S C : Type 0}
     → Ring C → Ghosts S C → S → List ℕ → List ℕ → List ℕ → ℕ → List C → List C → Type 0
 CopiesTo r kind source counts list order at old new =

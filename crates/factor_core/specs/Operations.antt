@@ -26,7 +26,8 @@ pub record SumFits {C : Type 0} (r : Ring C) (count : ℕ → ℕ) (v : ℕ) (t 
   pub sum : (w : World) → InRange count w
       → ring_sum mass_ring (count v) (λ s. r.size (t.cell (with_state w v s))) ≤ r.most
 
--- the first table of a node: a chance node's or decision's over itself and its parents, a utility's over its parents
+-- the first table of a node: a chance node's or decision's over itself and its parents, a utility's
+-- over its parents
 abbrev pub first_table : {C : Type 0} → Cells C → List NodeView → List RuleView → ℕ → Table C
 first_table c nodes p v =
     if is_utility (node_at nodes v).kind then utility_table c nodes v else node_table c nodes p v

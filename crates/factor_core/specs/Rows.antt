@@ -18,7 +18,8 @@ HasStrideRow counts slots strides row v =
 abbrev pub row_beside : ℕ → ℕ → ℕ
 row_beside at i = if ltb i at then i else i + 1
 
--- the nodes of some scope in ascending order, among them those of the slots from `low` on and below `high`
+-- the nodes of some scope in ascending order, among them those of the slots from `low` on and below
+-- `high`
 pub record HasNodes (counts : List ℕ) (slots : List Slot) (low high : ℕ) (nodes : List ℕ) : Type 0 where
   pub scope : ℕ → Bool
   pub listing : nodes ≡ listed scope 0 (length counts)

@@ -41,7 +41,8 @@ part cells start len = take len (drop start cells)
 abbrev pub picked : {C : Type 0} → Ring C → List NodeView → List ℕ → List C → World → C
 picked r nodes vs cells w = cell_at r cells (row_from (states_of nodes) w 0 vs)
 
--- a slot is live: its nodes are the diagram's, it is as long as they ask, and its range lies in the cells
+-- a slot is live: its nodes are the diagram's, it is as long as they ask, and its range lies in the
+-- cells
 pub record IsLiveSlot {C : Type 0} (nodes : List NodeView) (cells : List C) (slot : Slot) : Type 0 where
   pub known : (v : ℕ) → IsIn slot.scope v → v < length nodes
   pub size : slot.len ≡ cells_over nodes (holds slot.scope)
@@ -108,7 +109,8 @@ join_of r nodes v cells slots = sum_out r (states_of nodes) v (tables_of r nodes
 abbrev pub product_of_slots : {C : Type 0} → Ring C → List NodeView → List C → List Slot → Table C
 product_of_slots r nodes cells slots = product_table r (tables_of r nodes cells slots)
 
--- what was appended to a workspace, told of a list whose first cells are used: those of the slot are used then too
+-- what was appended to a workspace, told of a list whose first cells are used: those of the slot
+-- are used then too
 abbrev pub Behind : {C : Type 0} → List C → List C → ℕ → Slot
     → (WorkspaceView C → WorkspaceView C → Slot → Type 0) → Type 0
 Behind before after used slot Appended =

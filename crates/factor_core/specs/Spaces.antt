@@ -1,5 +1,5 @@
--- What joins over the cells so far require, and how cells and a slot are laid out behind them. Only private contracts cite
--- this file.
+-- What joins over the cells so far require, and how cells and a slot are laid out behind them. Only
+-- private contracts cite this file.
 use Rattle.std.specs.Global.{Vec}
 use Rattle.std.specs.Prelude.{◌≡◌, ℕ, take, vec_capacity, vec_len, ◌^◌, ◌<◌, ◌≤◌, List, All, length}
 use Rattle.cell_rings.specs.Rings.{Ring}
@@ -24,7 +24,8 @@ pub record CanMultiplyIn {C : Type 0}
   pub small : All (λ s. size_of counts s.scope ≤ 2 ^ 32) slots
   pub fits : RoomToMultiply r cells counts slots
 
--- cells were written up to that place: those that stood there stay, and no more were written than asked for
+-- cells were written up to that place: those that stood there stay, and no more were written than
+-- asked for
 pub record IsBlankedTo {C : Type 0} (end : ℕ) (before after : Vec C) : Type 0 where
   pub first : (n : ℕ) → n ≤ vec_len before → take n after.items ≡ take n before.items
   pub far : end ≤ vec_len after

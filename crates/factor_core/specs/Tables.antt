@@ -1,4 +1,5 @@
--- Places of cells over a list of counts, and joins as walks see them. Only private contracts cite this file.
+-- Places of cells over a list of counts, and joins as walks see them. Only private contracts cite
+-- this file.
 use Rattle.std.specs.Prelude.{◌≡◌, ℕ, zero, suc, ◌+◌, ◌-◌, ◌*◌, ◌<◌, ◌≤◌, ◌==◌, if◌then◌else◌, Bool, false, List, [], ◌∷◌, ◌++◌, ◌^◌, map, take, drop, All, length, slice_index, slice_index_or}
 use Rattle.cell_rings.specs.Rings.{Ring, mass_ring}
 use Rattle.cell_rings.specs.Sums.{ring_sum, cell_at, product_at, sizes_of, ProductFits}
@@ -21,7 +22,8 @@ place_from count h w v zero = 0
 place_from count h w v (suc k) =
     (if h v then w v * size_from count h (suc v) k else 0) + place_from count h w (suc v) k
 
--- how far apart the cells of neighbouring states of v stand in a table over n nodes, and 0 where the scope lacks v
+-- how far apart the cells of neighbouring states of v stand in a table over n nodes, and 0 where
+-- the scope lacks v
 abbrev pub stride_of : (ℕ → ℕ) → ℕ → (ℕ → Bool) → ℕ → ℕ
 stride_of count n h v = if h v then size_from count h (suc v) (n - suc v) else 0
 
@@ -99,7 +101,8 @@ abbrev pub HasTableAt :
 HasTableAt r counts scope start cells f = (w : World) → InRange (states_in counts) w
     → cell_at r cells (start + place_of counts scope w) ≡ f w
 
--- how far the place moves from one state of a node to the next, which is 0 for a node that the scope lacks
+-- how far the place moves from one state of a node to the next, which is 0 for a node that the
+-- scope lacks
 abbrev pub stride_over : List ℕ → NodeSet → ℕ → ℕ
 stride_over counts scope v = stride_of (states_in counts) (length counts) (holds scope) v
 
@@ -145,7 +148,8 @@ abbrev pub HasProduct : {C : Type 0}
 HasProduct r cells counts slots scope out = (w : World) → InRange (states_in counts) w
     → cell_at r out (place_of counts scope w) ≡ product_cell r cells counts slots w
 
--- the slot's nodes are below the count, and its cells lie in the workspace, as many as its scope asks
+-- the slot's nodes are below the count, and its cells lie in the workspace, as many as its scope
+-- asks
 pub record LiesIn (counts : List ℕ) (len : ℕ) (s : Slot) : Type 0 where
   pub known : (v : ℕ) → length counts ≤ v → holds s.scope v ≡ false
   pub size : s.len ≡ size_of counts s.scope

@@ -1,6 +1,5 @@
--- A walk over several axes: at each choice of a state for each axis the product of the operands' cells is added to a
--- cell of the result.
--- Only private contracts cite this file.
+-- A walk over several axes: at each choice of a state for each axis the product of the operands'
+-- cells is added to a cell of the result. Only private contracts cite this file.
 use Rattle.std.specs.Prelude.{◌≡◌, ℕ, ◌+◌, ◌*◌, ◌^◌, ◌<◌, ◌≤◌, ◌==◌, if◌then◌else◌, Bool, true, false, List, [], ◌∷◌, ◌-◌, length, take, drop, All, slice_index}
 use Rattle.cell_rings.specs.Rings.{Ring, mass_ring}
 use Rattle.cell_rings.specs.Sums.{ring_sum, cell_at, product_at, product_from, sizes_of, ProductFits, AddsCells, HasRoom}
@@ -13,8 +12,8 @@ shifted s strides [] = []
 shifted s [] (p ∷ ps) = p ∷ ps
 shifted s (d ∷ ds) (p ∷ ps) = (p + s * d) ∷ shifted s ds ps
 
--- what the walk adds to the cell p of the result: the sum, over all choices of states that lead to p, of the products
--- of the operands' cells
+-- what the walk adds to the cell p of the result: the sum, over all choices of states that lead to
+-- p, of the products of the operands' cells
 abbrev pub total : {C : Type 0} → Ring C → List C → List Axis → List ℕ → List ℕ → ℕ → ℕ → C
 total r cells [] strides places at p = if p == at then product_at r cells places else r.nought
 total r cells (a ∷ rest) strides places at p = ring_sum r a.states (λ s.
@@ -36,8 +35,8 @@ AtEach P [] strides places at = P places at
 AtEach P (a ∷ rest) strides places at = (s : ℕ) → s < a.states
     → AtEach P rest (drop (length places) strides) (shifted s strides places) (at + s * a.out)
 
--- one choice of states: the places lie in the cells, the result's in the result, and each product of the first
--- factors fits
+-- one choice of states: the places lie in the cells, the result's in the result, and each product
+-- of the first factors fits
 pub record IsMet {C : Type 0}
     (r : Ring C) (cells : List C) (len : ℕ) (places : List ℕ) (at : ℕ) : Type 0 where
   pub within : All (λ p. p < length cells) places
@@ -50,8 +49,8 @@ pub record IsAxis (a : Axis) : Type 0 where
   pub few : a.states ≤ 2 ^ 16
   pub near : a.out ≤ 2 ^ 32
 
--- what a walk requires: a row of strides for each axis, all places in range at each choice of states, and room for
--- what is added
+-- what a walk requires: a row of strides for each axis, all places in range at each choice of
+-- states, and room for what is added
 pub record CanWalk {C : Type 0}
     (r : Ring C) (cells : List C) (axes : List Axis) (strides places : List ℕ) (out : List C)
     (at : ℕ) : Type 0 where
@@ -70,14 +69,16 @@ pub record IsRun (a : Axis) (strides : List ℕ) (count : ℕ) : Type 0 where
   pub last : slice_index strides (count - 1) ≡ 1
   pub fixed : (i : ℕ) → i < count - 1 → slice_index strides i ≡ 0
 
--- there are two operands, of which the first and the result move cell by cell along the axis, and the second stands
+-- there are two operands, of which the first and the result move cell by cell along the axis, and
+-- the second stands
 pub record IsTurned (a : Axis) (strides : List ℕ) (count : ℕ) : Type 0 where
   pub two : count ≡ 2
   pub out : a.out ≡ 1
   pub first : slice_index strides 0 ≡ 1
   pub second : slice_index strides 1 ≡ 0
 
--- along the axis the result and one operand move cell by cell: the first of two where it is turned, else the last
+-- along the axis the result and one operand move cell by cell: the first of two where it is turned,
+-- else the last
 abbrev pub MovesAlong : Bool → Axis → List ℕ → ℕ → Type 0
 MovesAlong false a strides count = IsRun a strides count
 MovesAlong true a strides count = IsTurned a strides count
@@ -87,7 +88,8 @@ pub record IsPair (a : Axis) : Type 0 where
   pub two : a.states ≡ 2
   pub out : a.out ≡ 0
 
--- along the axis the result stands, the operands from one on move cell by cell, and those before them stand
+-- along the axis the result stands, the operands from one on move cell by cell, and those before
+-- them stand
 pub record IsDot (a : Axis) (strides : List ℕ) (stand count : ℕ) : Type 0 where
   pub within : stand ≤ count
   pub out : a.out ≡ 0
@@ -109,7 +111,8 @@ abbrev pub sum_along : {C : Type 0} → Ring C → ℕ → List C → C → List
 sum_along r n cells factor places =
     ring_sum r n (λ s. product_from r cells factor (further s places))
 
--- how many operands there are where one runs along an axis: two where it is the first, else one or more
+-- how many operands there are where one runs along an axis: two where it is the first, else one or
+-- more
 abbrev pub IsCount : Bool → ℕ → Type 0
 IsCount false n = 0 < n
 IsCount true n = n ≡ 2
@@ -135,7 +138,8 @@ pub record IsFirstRun {C : Type 0}
   pub stands : factor ≡ cell_at r cells (slice_index places 1)
   pub begins : from ≡ slice_index places 0
 
--- what a walk adds along an axis that one operand moves along: the cells from a place on, each times the factor
+-- what a walk adds along an axis that one operand moves along: the cells from a place on, each
+-- times the factor
 abbrev pub IsRunAt : {C : Type 0} → Bool → Ring C → List C → List ℕ → C → ℕ → Type 0
 IsRunAt false r cells places factor from = IsLastRun r cells places factor from
 IsRunAt true r cells places factor from = IsFirstRun r cells places factor from

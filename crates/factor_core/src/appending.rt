@@ -14,7 +14,8 @@ use crate::writes::{join_at, multiply_at};
 use cell_rings::Cell;
 use maid_model::Diagram;
 
-/// Writes the join of the slots with the node summed out of it into the slot behind them, whose cells are there.
+/// Writes the join of the slots with the node summed out of it into the slot behind them, whose
+/// cells are there.
 pub fn join_behind<C: Cell>(
     diagram: &Diagram,
     counts: &[usize],

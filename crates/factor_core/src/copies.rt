@@ -7,8 +7,8 @@ use crate::sources::{Source, Stored};
 use crate::walks::after;
 use cell_rings::Cell;
 
-/// One step of a copy: how many states its node has, and how far apart the cells of neighbouring states stand in what is
-/// read.
+/// One step of a copy: how many states its node has, and how far apart the cells of neighbouring
+/// states stand in what is read.
 #[derive(Clone, Copy)]
 pub struct Step {
     pub states: usize,
@@ -59,7 +59,8 @@ fn copy_rows<C: Cell, S: Source<C>>(
     place
 }
 
-/// Copies the cells that the steps read, the first step slowest, to the places from `at` on. Gives the place behind them.
+/// Copies the cells that the steps read, the first step slowest, to the places from `at` on. Gives
+/// the place behind them.
 pub fn copy_walk<C: Cell, S: Source<C>>(
     steps: &[Step],
     source: &S,

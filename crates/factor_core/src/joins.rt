@@ -94,8 +94,8 @@ fn join_sized<C: Cell, const NODES: usize, const SLOTS: usize, const STRIDES: us
     );
 }
 
-/// Adds the join of the slots to a result of noughts over the scope: each cell is the sum over the node's states of
-/// the product of the slots' cells. It takes no memory.
+/// Adds the join of the slots to a result of noughts over the scope: each cell is the sum over the
+/// node's states of the product of the slots' cells. It takes no memory.
 pub fn join_into<C: Cell>(
     counts: &[usize],
     slots: &[Slot],

@@ -1,5 +1,5 @@
-//! Tables over scopes, one behind another in one workspace: what each call makes of them is said by the tables of
-//! `ring_sums`, and a slot is seen as one of those.
+//! Tables over scopes, one behind another in one workspace: what each call makes of them is said by
+//! the tables of `ring_sums`, and a slot is seen as one of those.
 #![tactic(auto)]
 
 mod appending;

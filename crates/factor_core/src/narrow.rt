@@ -6,7 +6,8 @@ ghost use Rattle.factor_core.specs.Narrow.{AreNarrow};
 use crate::slots::Slot;
 use cell_rings::Cell;
 
-/// How many cells a join has to have before it looks whether those of the slot that it runs along are narrow.
+/// How many cells a join has to have before it looks whether those of the slot that it runs along
+/// are narrow.
 const MANY: usize = 4096;
 
 /// How often it has to use each of these.
@@ -49,7 +50,8 @@ fn narrow_slot<C: Cell>(slot: &Slot, cells: &[C]) -> Narrow
     }
 }
 
-/// Where a join of so many cells uses each of the slot's cells often, and these are narrow, their places.
+/// Where a join of so many cells uses each of the slot's cells often, and these are narrow, their
+/// places.
 fn often_used<C: Cell>(slot: &Slot, joined: usize, cells: &[C]) -> Narrow
     ensures { AreNarrow C.ring C.bits C.narrow cells.now result }
 {
@@ -59,7 +61,8 @@ fn often_used<C: Cell>(slot: &Slot, joined: usize, cells: &[C]) -> Narrow
     narrow_slot(slot, cells)
 }
 
-/// Where a join of many cells uses each cell of the last slot over this node often, and these are narrow, their places.
+/// Where a join of many cells uses each cell of the last slot over this node often, and these are
+/// narrow, their places.
 pub fn find_narrow<C: Cell>(slots: &[Slot], node: usize, joined: usize, cells: &[C]) -> Narrow
     ensures { AreNarrow C.ring C.bits C.narrow cells.now result }
 {

@@ -81,9 +81,10 @@ fn is_short(counts: &[usize], node: usize) -> bool {
     }
 }
 
-/// Where the summed node stands among the n nodes of the result. Behind them all where the walk goes cell by cell, so
-/// that each sum is written once, and where it is the highest and the last slot holds it, so that all slots that hold
-/// it move cell by cell along it; otherwise before the last.
+/// Where the summed node stands among the n nodes of the result. Behind them all where the walk
+/// goes cell by cell, so that each sum is written once, and where it is the highest and the last
+/// slot holds it, so that all slots that hold it move cell by cell along it; otherwise before the
+/// last.
 pub fn summed_place(
     counts: &[usize],
     order: &[usize],

@@ -77,8 +77,8 @@ fn multiply_sized<C: Cell, const NODES: usize, const SLOTS: usize, const STRIDES
     );
 }
 
-/// Adds the product of the slots to a result of noughts over the scope: each cell is the product of the slots' cells.
-/// It takes no memory.
+/// Adds the product of the slots to a result of noughts over the scope: each cell is the product of
+/// the slots' cells. It takes no memory.
 pub fn multiply_into<C: Cell>(
     counts: &[usize],
     slots: &[Slot],

@@ -1,4 +1,5 @@
-//! Tables copied behind the first cells of a list: at one state of a node, and in another order of nodes.
+//! Tables copied behind the first cells of a list: at one state of a node, and in another order of
+//! nodes.
 
 ghost use Rattle.std.specs.Prelude.{◌≡◌, ◌+◌, ◌*◌, ◌^◌, ◌<◌, ◌≤◌, ℕ, length, take, not, ◌&&◌, ◌==◌, ◌↔◌, Contains};
 ghost use Rattle.maid_model.specs.declared.limits.TheConstants.{MOST_PLAN_CELLS};
@@ -46,7 +47,8 @@ pub fn without(scope: &NodeSet, node: usize) -> NodeSet
     rest
 }
 
-/// Writes the slot's cells at one state of the node into the target behind it, whose cells are there.
+/// Writes the slot's cells at one state of the node into the target behind it, whose cells are
+/// there.
 pub fn restrict_behind<C: Cell>(
     diagram: &Diagram,
     slot: &Slot,

@@ -57,8 +57,8 @@ fn place_beside(at: usize, i: usize) -> usize
     if i < at { i } else { i + 1 }
 }
 
-/// Writes the rows of those of the nodes that are from `low` on and below `high`, from the last to the first, where one
-/// more node has the row `at`.
+/// Writes the rows of those of the nodes that are from `low` on and below `high`, from the last to
+/// the first, where one more node has the row `at`.
 fn set_rows(
     strides: &mut [usize],
     sizes: &mut [usize],
@@ -98,7 +98,8 @@ fn set_ones(sizes: &mut [usize], counts: &[usize], slots: &[Slot])
     }
 }
 
-/// Writes the strides of the slots at each of their nodes. The list of sizes is left with what the walk needed.
+/// Writes the strides of the slots at each of their nodes. The list of sizes is left with what the
+/// walk needed.
 pub fn set_strides(
     strides: &mut [usize],
     sizes: &mut [usize],
@@ -126,8 +127,8 @@ pub fn set_strides(
     );
 }
 
-/// Writes the strides of the slots at each of their nodes, with those at one node in the row `at`, and those at the other
-/// ones in ascending order beside it.
+/// Writes the strides of the slots at each of their nodes, with those at one node in the row `at`,
+/// and those at the other ones in ascending order beside it.
 pub fn set_strides_with(
     strides: &mut [usize],
     sizes: &mut [usize],

@@ -11,8 +11,8 @@ use crate::slots::Slot;
 use crate::walks::Axis;
 use node_sets::NodeSet;
 
-/// Writes the axes of the scope's nodes, from the last to the first: how many cells there are over the nodes behind one
-/// is its stride in the result.
+/// Writes the axes of the scope's nodes, from the last to the first: how many cells there are over
+/// the nodes behind one is its stride in the result.
 pub fn set_axes(axes: &mut [Axis], counts: &[usize], scope: &NodeSet, kept: &[usize])
     requires counts { AreCounts counts.now }
     requires kept { kept.now ≡ listed (holds scope.now) 0 (length counts.now) }

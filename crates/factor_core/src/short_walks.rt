@@ -1,4 +1,5 @@
-//! The walk of joins and products of few operands along short axes: cell by cell, the operands counted by the compiler.
+//! The walk of joins and products of few operands along short axes: cell by cell, the operands
+//! counted by the compiler.
 
 ghost use Rattle.std.specs.Prelude.{◌≡◌, ◌+◌, ◌*◌, ◌<◌, ◌≤◌, length, drop, [], ◌∷◌, ◌↔◌, IsTrue};
 ghost use Rattle.factor_core.specs.Narrow.{AreNarrow};

@@ -31,7 +31,8 @@ pub fn table_size(counts: &[usize], scope: &NodeSet) -> usize
     size_after(counts, scope, 0)
 }
 
-/// How far apart the cells of neighbouring states of the node stand, and 0 where the scope lacks the node.
+/// How far apart the cells of neighbouring states of the node stand, and 0 where the scope lacks
+/// the node.
 pub fn stride(counts: &[usize], scope: &NodeSet, node: usize) -> usize
     requires counts { AreCounts counts.now }
     requires node { node < length counts.now }

@@ -7,8 +7,8 @@ ghost use Rattle.factor_core.specs.Scopes.{united, united_but};
 
 use node_sets::{MOST_NODES, NodeSet};
 
-/// A table in a workspace: where its cells start, how many there are, and over which nodes they are, as one bit a node.
-/// The cells stand with the lowest node slowest.
+/// A table in a workspace: where its cells start, how many there are, and over which nodes they
+/// are, as one bit a node. The cells stand with the lowest node slowest.
 #[derive(Clone, Copy, Debug, PartialEq, Eq)]
 pub struct Slot {
     pub start: usize,

@@ -45,7 +45,8 @@ fn rows_after(counts: &[usize], list: &[usize], from: usize) -> usize
     rows
 }
 
-/// How far apart the cells of neighbouring states of the node stand, in cells with the first node of the list slowest.
+/// How far apart the cells of neighbouring states of the node stand, in cells with the first node
+/// of the list slowest.
 fn stride_in(counts: &[usize], list: &[usize], node: usize) -> usize
     requires counts { AreCounts counts.now }
     requires list { All (λ v. v < length counts.now) list.now }
@@ -60,7 +61,8 @@ fn stride_in(counts: &[usize], list: &[usize], node: usize) -> usize
     0
 }
 
-/// Writes the steps of the nodes, with the strides of cells that stand with the first node of the list slowest.
+/// Writes the steps of the nodes, with the strides of cells that stand with the first node of the
+/// list slowest.
 fn set_list_steps(steps: &mut [Step], counts: &[usize], list: &[usize], order: &[usize])
     requires counts { AreCounts counts.now }
     requires list { All (λ v. v < length counts.now) list.now }
@@ -109,8 +111,8 @@ fn copy_straight<C: Cell, S: Source<C>>(
     copy_from(&run, source, all, at);
 }
 
-/// Copies the cells of a source, which has them with the first node of the list slowest, to the places from `at` on,
-/// there with the first node of the order slowest.
+/// Copies the cells of a source, which has them with the first node of the list slowest, to the
+/// places from `at` on, there with the first node of the order slowest.
 fn copy_listed<C: Cell, S: Source<C>>(
     counts: &[usize],
     list: &[usize],

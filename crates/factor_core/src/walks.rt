@@ -8,8 +8,8 @@ ghost use Rattle.factor_core.specs.Narrow.{AreNarrow};
 use crate::narrow::Narrow;
 use cell_rings::{Cell, RunPair};
 
-/// One axis of a walk: how many states its node has, and how far the result's place moves from one state to the next,
-/// which is 0 at the node that is summed.
+/// One axis of a walk: how many states its node has, and how far the result's place moves from one
+/// state to the next, which is 0 at the node that is summed.
 #[derive(Clone, Copy)]
 pub struct Axis {
     pub states: usize,
@@ -77,7 +77,8 @@ pub fn before<T>(list: &[T], n: usize) -> &[T]
     list.split_at(n).0
 }
 
-/// Whether the result and the last operand move cell by cell along the axis while the other operands stand.
+/// Whether the result and the last operand move cell by cell along the axis while the other
+/// operands stand.
 fn is_run(axis: Axis, strides: &[usize], count: usize) -> bool
     requires { count ≤ length strides.now }
     ensures { IsTrue result → IsRun axis strides.now count }
@@ -94,7 +95,8 @@ fn is_run(axis: Axis, strides: &[usize], count: usize) -> bool
     strides[last] == 1
 }
 
-/// Whether the result and the first of two operands move cell by cell along the axis while the second stands.
+/// Whether the result and the first of two operands move cell by cell along the axis while the
+/// second stands.
 fn is_turned(axis: Axis, strides: &[usize], count: usize) -> bool
     requires { count ≤ length strides.now }
     ensures { IsTrue result ↔ IsTurned axis strides.now count }
@@ -102,8 +104,8 @@ fn is_turned(axis: Axis, strides: &[usize], count: usize) -> bool
     count == 2 && axis.out == 1 && strides[0] == 1 && strides[1] == 0
 }
 
-/// Whether one operand and the result move cell by cell along the axis while the others stand: if so, whether that
-/// operand is the first of two, and not the last.
+/// Whether one operand and the result move cell by cell along the axis while the others stand: if
+/// so, whether that operand is the first of two, and not the last.
 fn run_along(axis: Axis, strides: &[usize], count: usize) -> Option<bool>
     requires { count ≤ length strides.now }
     ensures { IfSome result (λ turned. MovesAlong turned axis strides.now count) }
@@ -117,8 +119,8 @@ fn run_along(axis: Axis, strides: &[usize], count: usize) -> Option<bool>
     None
 }
 
-/// What a walk adds along an axis that one operand and the result move along while the other operands stand: the
-/// product of the cells that stand, times each cell of a run.
+/// What a walk adds along an axis that one operand and the result move along while the other
+/// operands stand: the product of the cells that stand, times each cell of a run.
 #[derive(Clone, Copy)]
 struct Run<C> {
     factor: C,
@@ -144,7 +146,8 @@ fn read_run<C: Cell>(turned: bool, cells: &[C], places: &[usize]) -> Run<C>
     }
 }
 
-/// The runs at two states of the axis above, whose strides stand first, and the places after these states.
+/// The runs at two states of the axis above, whose strides stand first, and the places after these
+/// states.
 fn next_pair<C: Cell>(
     turned: bool,
     strides: &[usize],
@@ -295,7 +298,8 @@ fn count_standing(strides: &[usize], count: usize) -> usize
     count
 }
 
-/// Whether the result stands along the axis, while the operands from one on move cell by cell and those before it stand.
+/// Whether the result stands along the axis, while the operands from one on move cell by cell and
+/// those before it stand.
 fn is_dot(axis: Axis, strides: &[usize], stand: usize, count: usize) -> bool
     requires count { count ≤ length strides.now }
     requires stand { stand ≤ count }

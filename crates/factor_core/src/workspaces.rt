@@ -23,8 +23,9 @@ use node_sets::NodeSet;
 use std::alloc::{AllocError, Global};
 use std::marker::Model;
 
-/// Tables one behind another in one vector of cells, for which all memory is taken when it is made. A cell is written
-/// once a table needs it, so that a workspace touches no more of its memory than its tables take.
+/// Tables one behind another in one vector of cells, for which all memory is taken when it is made.
+/// A cell is written once a table needs it, so that a workspace touches no more of its memory than
+/// its tables take.
 #[derive(Drop)]
 pub struct Workspace<C> {
     cells: Vec<C>,
@@ -92,8 +93,9 @@ impl<C: Cell> Workspace<C> {
         self.used = 0;
     }
 
-    /// The first table of a node: a chance node's cells and the weights of a decision's rule by `Cell::weight`, over the
-    /// node and its parents, and a utility's cells by `Cell::value`, over its parents.
+    /// The first table of a node: a chance node's cells and the weights of a decision's rule by
+    /// `Cell::weight`, over the node and its parents, and a utility's cells by `Cell::value`, over
+    /// its parents.
     pub fn table(&mut self, diagram: &Diagram, profile: &Profile, node: usize) -> Slot
         requires profile { IsProfile diagram.now.nodes profile.now }
         requires node { node < length diagram.now.nodes }
@@ -118,9 +120,9 @@ impl<C: Cell> Workspace<C> {
         slot
     }
 
-    /// The join of the slots with the node summed out of it: over their nodes but this one, and in each world the sum
-    /// over the node's states of the product of the slots' cells. The joined table is never stored. It goes over each of
-    /// its cells once.
+    /// The join of the slots with the node summed out of it: over their nodes but this one, and in
+    /// each world the sum over the node's states of the product of the slots' cells. The joined
+    /// table is never stored. It goes over each of its cells once.
     pub fn join_out(&mut self, diagram: &Diagram, slots: &[Slot], node: usize) -> Slot
         requires few { length slots.now ≤ 256 }
         requires some { 0 < length slots.now }
@@ -145,8 +147,8 @@ impl<C: Cell> Workspace<C> {
         slot
     }
 
-    /// The product of the slots: over their nodes, and in each world the product of their cells. Without a slot it has
-    /// the one cell `one`.
+    /// The product of the slots: over their nodes, and in each world the product of their cells.
+    /// Without a slot it has the one cell `one`.
     pub fn product(&mut self, diagram: &Diagram, slots: &[Slot]) -> Slot
         requires few { length slots.now ≤ 256 }
         requires live { All (IsLiveSlot diagram.now.nodes self.old.cells) slots.now }
@@ -161,8 +163,8 @@ impl<C: Cell> Workspace<C> {
         slot
     }
 
-    /// The slot with the node summed out of it: over its other nodes, and in each world the sum of its cells over the
-    /// node's states.
+    /// The slot with the node summed out of it: over its other nodes, and in each world the sum of
+    /// its cells over the node's states.
     pub fn sum_out(&mut self, diagram: &Diagram, slot: &Slot, node: usize) -> Slot
         requires live { IsLiveSlot diagram.now.nodes self.old.cells slot.now }
         requires hold { IsIn slot.now.scope node }
@@ -193,7 +195,8 @@ impl<C: Cell> Workspace<C> {
         rest
     }
 
-    /// The slot's cells in another order: the first of these nodes, which are the slot's, slowest. It copies them.
+    /// The slot's cells in another order: the first of these nodes, which are the slot's, slowest.
+    /// It copies them.
     pub fn reorder(&mut self, diagram: &Diagram, slot: &Slot, nodes: &[usize]) -> Strip
         requires live { IsLiveSlot diagram.now.nodes self.old.cells slot.now }
         requires once { AllDifferent nodes.now }

@@ -20,7 +20,8 @@ product_over-split f p (v ∷ vs) = go (p v) (product_over-split f p vs)
     go true e = ap (λ x. f v *ℤ x) e ∙ sym (mul_assoc (f v) (product_over f (filter p vs)) (product_over f (filter (λ v. not (p v)) vs)))
     go false e = ap (λ x. f v *ℤ x) e ∙ mul_left_comm (f v) (product_over f (filter p vs)) (product_over f (filter (λ v. not (p v)) vs))
 
--- the sum of the product of the tables is the product of their totals, where no table looks at a later node of the list
+-- the sum of the product of the tables is the product of their totals, where no table looks at a
+-- later node of the list
 pub sum_over_totals : (count : ℕ → ℕ) (table : ℕ → World → ℤ) (total : ℕ → ℤ) (vs : List ℕ) → IgnoresLater count table vs → HaveTotals count table total vs
     → (w : World) → InRange count w → sum_over count vs (λ x. product_over (λ v. table v x) vs) w ≡ product_over total vs
 sum_over_totals count table total [] later totals w i = refl
@@ -51,7 +52,8 @@ IgnoresAll-product count table vs (u ∷ us) h = (Ignores-product count table vs
     rest [] h = tt
     rest (v ∷ vs) h = (h.0.1, rest vs h.1)
 
--- The law of totals. The nodes of ins and outs are summed. No table of ins and not f looks at a node of outs; then the tables of outs sum to their totals.
+-- The law of totals. The nodes of ins and outs are summed. No table of ins and not f looks at a
+-- node of outs; then the tables of outs sum to their totals.
 pub totals_out : (count : ℕ → ℕ) (table : ℕ → World → ℤ) (total : ℕ → ℤ) (ins outs : List ℕ) (f : World → ℤ)
     → IgnoresAll count f outs → IgnoresLater count table outs → HaveTotals count table total outs
     → (w : World) → InRange count w

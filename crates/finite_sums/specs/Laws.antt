@@ -10,7 +10,8 @@ ShuffledSums =
     (count : ℕ → ℕ) (f : World → ℤ) (xs ys : List ℕ) (w : World) → Shuffled xs ys
     → sum_over count xs f w ≡ sum_over count ys f w
 
--- A sum over two lists of two factors, neither of which looks at the other's list, is a product of two sums.
+-- A sum over two lists of two factors, neither of which looks at the other's list, is a product of
+-- two sums.
 abbrev pub SumsMultiply : Type 0
 SumsMultiply = (count : ℕ → ℕ) (us vs : List ℕ) (f g : World → ℤ) → IgnoresAll count f vs
     → IgnoresAll count g us → (w : World) → InRange count w

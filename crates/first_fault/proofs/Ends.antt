@@ -1,4 +1,5 @@
--- What comes of a task: something always comes, and all that comes looks the same, where its stages and what it gives do.
+-- What comes of a task: something always comes, and all that comes looks the same, where its stages
+-- and what it gives do.
 use Rattle.std.proofs.Common.{◌≡◌, inl, inr, List, Result, Ok, Err}
 use Rattle.first_fault.specs.Passes.{Pass, each}
 use Rattle.first_fault.specs.Outcomes.{Outcomes, gives, ◌▸▸◌, staged}

@@ -1,4 +1,5 @@
--- What the words of a table keep: where each part finds nothing or a fault, or never both, or one fault at most, so does the whole.
+-- What the words of a table keep: where each part finds nothing or a fault, or never both, or one
+-- fault at most, so does the whole.
 use Rattle.std.proofs.Common.{◌≡◌, Bool, true, false, inl, inr, List, [], ◌∷◌, ◌++◌, None, Some, refl, sym, ◌∙◌, ap, subst}
 use Rattle.first_fault.specs.Passes.{Pass, clear, rule, only, ◌▸◌, each, each_after, over}
 use Rattle.first_fault.specs.Properties.{IsCovered, IsExclusive, HasOne, FindsOnly}

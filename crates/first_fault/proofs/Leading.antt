@@ -1,4 +1,5 @@
--- How the parts of a pass make the whole of it. In a loop the rows that are still to come lead to the whole pass: whatever they find, it finds.
+-- How the parts of a pass make the whole of it. In a loop the rows that are still to come lead to
+-- the whole pass: whatever they find, it finds.
 use Rattle.std.proofs.Common.{◌≡◌, ℕ, ◌+◌, ◌<◌, ◌≤◌, Bool, true, false, cond, inl, inr, List, [], ◌∷◌, ◌++◌, length, get_or, take, drop, filter, Option, None, Some, Result, Ok, Err, sym, ◌∙◌, ap}
 use Rattle.std.proofs.lemmas.List.{drop_more, take_more, append-nil, drop_all}
 use Rattle.std.proofs.lemmas.List.Elements.{filter-append}

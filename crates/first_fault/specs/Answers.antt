@@ -12,7 +12,8 @@ IsFoundIfAny P (Some f) = P (Some f)
 abbrev pub IsFaultOrNoMemory : {E Fault : Type 0} → (E → Option Fault) → Pass Fault → E → Type 0
 IsFaultOrNoMemory view P error = IsFoundIfAny P (view error)
 
--- a result is Ok where the pass finds nothing, and else tells its first fault or that memory ran out
+-- a result is Ok where the pass finds nothing, and else tells its first fault or that memory ran
+-- out
 abbrev pub Passes : {A E Fault : Type 0} → (E → Option Fault) → Pass Fault → Result A E → Type 0
 Passes view P (Ok x) = P None
 Passes view P (Err error) = IsFaultOrNoMemory view P error

@@ -1,5 +1,5 @@
--- What comes of a task that has stages: the first fault of its stages, one behind another, or what it gives where
--- they find nothing.
+-- What comes of a task that has stages: the first fault of its stages, one behind another, or what
+-- it gives where they find nothing.
 use Rattle.std.specs.Prelude.{◌⊎◌, List, None, Some, Result, Ok, Err}
 use Rattle.first_fault.specs.Passes.{Pass, each}
 

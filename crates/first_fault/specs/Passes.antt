@@ -1,7 +1,9 @@
--- Passes: each finds its first fault, or nothing. A table of faults is written down in these words, row by row.
+-- Passes: each finds its first fault, or nothing. A table of faults is written down in these words,
+-- row by row.
 use Rattle.std.specs.Prelude.{◌≡◌, ◌⊎◌, Bool, true, false, List, [], ◌∷◌, ◌++◌, Option, None, Some}
 
--- What a pass finds: P None says that it finds nothing, and P (Some f) that f is the first fault it finds.
+-- What a pass finds: P None says that it finds nothing, and P (Some f) that f is the first fault it
+-- finds.
 abbrev pub Pass : Type 0 → Type 1
 Pass Fault = Option Fault → Type 0
 

@@ -23,8 +23,8 @@ pub fn repeats_are_found_in_turn()
     ensures first { FindsTheRepeat }
 {}
 
-/// What code answers of a table: there is an answer where no test holds, and an error tells the first fault or want of
-/// memory.
+/// What code answers of a table: there is an answer where no test holds, and an error tells the
+/// first fault or want of memory.
 pub fn answers_tell_the_first_fault()
     ensures err { TellsTheFirst }
     ensures ok { AnswersWithoutFault }

@@ -14,8 +14,8 @@ coin = diagram_of (
 abbrev pub certain : DiagramView
 certain = diagram_of (chance_node 2 [] (pos 1 ∷ pos 0 ∷ []) ∷ []) 0 0
 
--- a coin of weights 1 and 3, a bet on it that doesn't see it, a node that repeats the bet, and what the pairs pay: 4,
--- 0, 1 and 2
+-- a coin of weights 1 and 3, a bet on it that doesn't see it, a node that repeats the bet, and what
+-- the pairs pay: 4, 0, 1 and 2
 abbrev pub bet : DiagramView
 bet = diagram_of (
     chance_node 2 [] (pos 1 ∷ pos 3 ∷ [])

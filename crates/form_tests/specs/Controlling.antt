@@ -3,7 +3,8 @@ use Rattle.std.specs.Prelude.{[], ◌∷◌, pos}
 use Rattle.maid_model.specs.Views.{DiagramView, diagram_of}
 use Rattle.sample_diagrams.specs.Nodes.{chance_node, decision_node, utility_node}
 
--- what the day is like, a choice that sees it, an outcome that is what was chosen, and what day and outcome pay
+-- what the day is like, a choice that sees it, an outcome that is what was chosen, and what day and
+-- outcome pay
 abbrev pub example : DiagramView
 example = diagram_of (
     chance_node 2 [] (pos 1 ∷ pos 1 ∷ [])

@@ -16,7 +16,8 @@ even = pos 1 ∷ pos 1 ∷ []
 abbrev pub alike : List ℤ
 alike = pos 1 ∷ pos 0 ∷ pos 0 ∷ pos 1 ∷ pos 0 ∷ pos 1 ∷ pos 1 ∷ pos 0 ∷ []
 
--- two coins, a node that tells whether they fell alike, and a guess at the second coin, which is worth 1 if right
+-- two coins, a node that tells whether they fell alike, and a guess at the second coin, which is
+-- worth 1 if right
 abbrev pub guessing : Bool → DiagramView
 guessing told = diagram_of (
     chance_node 2 [] even

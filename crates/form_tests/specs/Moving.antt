@@ -14,7 +14,8 @@ shown =
 abbrev pub drilled : List ℤ
 drilled = negsuc 69 ∷ pos 0 ∷ pos 50 ∷ pos 0 ∷ pos 200 ∷ pos 0 ∷ []
 
--- whether to test a well, the oil, what the test shows, whether to drill after it, the cost of the test, and the pay
+-- whether to test a well, the oil, what the test shows, whether to drill after it, the cost of the
+-- test, and the pay
 abbrev pub oil : DiagramView
 oil = diagram_of (
     decision_node 0 2 []
@@ -30,7 +31,8 @@ abbrev pub signal_weights : Bool → List ℤ
 signal_weights true = pos 1 ∷ pos 1 ∷ []
 signal_weights false = pos 0 ∷ pos 1 ∷ []
 
--- the decision sees the signal: 3 for the first state in the one case, 1 for the second in the other
+-- the decision sees the signal: 3 for the first state in the one case, 1 for the second in the
+-- other
 abbrev pub steer : Bool → DiagramView
 steer even = diagram_of (
     chance_node 2 [] (signal_weights even)
@@ -38,7 +40,8 @@ steer even = diagram_of (
     ∷ utility_node 0 (0 ∷ 1 ∷ []) (pos 3 ∷ pos 0 ∷ pos 0 ∷ pos 1 ∷ [])
     ∷ []) 1 0
 
--- the decision sees nothing: 1 for sure, or 2 in the one case or the other; and an echo, to which nobody listens
+-- the decision sees nothing: 1 for sure, or 2 in the one case or the other; and an echo, to which
+-- nobody listens
 abbrev pub bet : DiagramView
 bet = diagram_of (
     chance_node 2 [] (pos 1 ∷ pos 1 ∷ [])

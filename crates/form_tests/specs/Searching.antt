@@ -4,13 +4,15 @@ use Rattle.maid_model.specs.declared.limits.TheConstants.{GREATEST_NUMBER}
 use Rattle.maid_model.specs.Views.{DiagramView, diagram_of}
 use Rattle.sample_diagrams.specs.Nodes.{chance_node, decision_node, utility_node}
 
--- the follower sees the leader's choice; in matching pennies and at the meeting nobody sees anything
+-- the follower sees the leader's choice; in matching pennies and at the meeting nobody sees
+-- anything
 abbrev pub seen_in : ℕ → List ℕ
 seen_in zero = []
 seen_in (suc zero) = 0 ∷ []
 seen_in (suc (suc n)) = []
 
--- what the first agent gets in matching pennies, in the game of leader and follower, and at the meeting
+-- what the first agent gets in matching pennies, in the game of leader and follower, and at the
+-- meeting
 abbrev pub first_pays : ℕ → List ℤ
 first_pays zero = pos 1 ∷ negsuc 0 ∷ negsuc 0 ∷ pos 1 ∷ []
 first_pays (suc zero) = pos 2 ∷ pos 0 ∷ pos 3 ∷ pos 1 ∷ []

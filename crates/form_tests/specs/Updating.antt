@@ -3,7 +3,8 @@ use Rattle.std.specs.Prelude.{ℤ, Bool, true, false, List, [], ◌∷◌, pos}
 use Rattle.maid_model.specs.Views.{DiagramView, diagram_of}
 use Rattle.sample_diagrams.specs.Nodes.{chance_node, decision_node, utility_node}
 
--- an agent that takes both decisions is paid for being alike, or for the second state of the second decision
+-- an agent that takes both decisions is paid for being alike, or for the second state of the second
+-- decision
 abbrev pub paid : Bool → List ℤ
 paid true = pos 0 ∷ pos 10 ∷ pos 0 ∷ pos 20 ∷ []
 paid false = pos 10 ∷ pos 0 ∷ pos 0 ∷ pos 20 ∷ []

@@ -95,8 +95,8 @@ fn verdict(
     check(alloc, diagram, &report(alloc, first, second, plan, gain)?)
 }
 
-/// The verdict on the report with these rows of the reply and of the plan, each a choice and what it is worth, and this
-/// gain; none where the diagram may not be checked, or has no such choice.
+/// The verdict on the report with these rows of the reply and of the plan, each a choice and what
+/// it is worth, and this gain; none where the diagram may not be checked, or has no such choice.
 fn verdict_on(
     alloc: Global,
     [first, second, plan]: [(usize, Option<i128>); 3],
@@ -125,8 +125,8 @@ fn rejected(line: usize, cause: Cause) -> Verdict {
     Verdict::Rejected { line, cause }
 }
 
-// The lines are: the head, the order, the reply with its two rows, the plan with its row, and the agent. The reply is
-// worth 4 and 3 at its best, and the plan 4.
+// The lines are: the head, the order, the reply with its two rows, the plan with its row, and the
+// agent. The reply is worth 4 and 3 at its best, and the plan 4.
 #[test]
 fn the_first_line_that_fails_is_named(rt: HostRuntime) -> Result<(), Fail> {
     let right = [(1, Some(4)), (0, Some(3)), (0, Some(4))];

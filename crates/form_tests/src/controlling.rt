@@ -39,7 +39,8 @@ fn is_day(line: &ControlLine) -> bool {
     worth && line.node == 0 && line.response && !line.instrumental
 }
 
-/// Whether the line is of the outcome: the choice works through it, and as a decision it would make a cycle with it.
+/// Whether the line is of the outcome: the choice works through it, and as a decision it would make
+/// a cycle with it.
 fn is_outcome(line: &ControlLine) -> bool {
     let cycle = match &line.found {
         Controlled::Cycle(list) => list.as_slice() == [1, 2].as_slice(),
@@ -48,8 +49,9 @@ fn is_outcome(line: &ControlLine) -> bool {
     cycle && line.node == 2 && !line.response && line.instrumental
 }
 
-// The choice answers the day: on average 2, and 3 where the agent picks the day too. The outcome serves the choice; as a
-// decision it would see the choice and not the day, so that each of the two would rely on the other.
+// The choice answers the day: on average 2, and 3 where the agent picks the day too. The outcome
+// serves the choice; as a decision it would see the choice and not the day, so that each of the two
+// would rely on the other.
 #[test]
 fn a_day_and_an_outcome(rt: HostRuntime) -> Result<(), Fail> {
     let lines = lines(rt.alloc())?;

@@ -16,7 +16,8 @@ fn seen_by(told: bool) -> &'static [usize]
     if told { &[0, 2] } else { &[0] }
 }
 
-/// Two coins, whether they fell alike, and a guess at the second coin that sees the first and may be told of both.
+/// Two coins, whether they fell alike, and a guess at the second coin that sees the first and may
+/// be told of both.
 fn diagram(alloc: Global, told: bool) -> Result<Diagram, AllocError>
     ensures { IfOk result (λ d. d ≡ guessing told) }
 {
@@ -30,7 +31,8 @@ fn diagram(alloc: Global, told: bool) -> Result<Diagram, AllocError>
     sample_diagram(alloc, &nodes, 1, 0)
 }
 
-/// The worth that a line tells, as numerator and denominator, and 0 over 0 where it says `Worthless`.
+/// The worth that a line tells, as numerator and denominator, and 0 over 0 where it says
+/// `Worthless`.
 fn worth(line: &InfoLine) -> Option<(i128, u128)> {
     match line.found {
         Found::Value(Ratio { num, den }) => Some((num, den)),
@@ -39,7 +41,8 @@ fn worth(line: &InfoLine) -> Option<(i128, u128)> {
     }
 }
 
-/// Whether the line is of the arc from the node to the guess, and says whether that is there and what it is worth.
+/// Whether the line is of the arc from the node to the guess, and says whether that is there and
+/// what it is worth.
 fn says(line: &InfoLine, from: usize, (has, value): (bool, (i128, u128))) -> bool {
     line.from == from && line.to == 3 && line.has == has && worth(line) == Some(value)
 }
@@ -62,7 +65,8 @@ fn is_said(alloc: Global, told: bool, want: [(bool, (i128, u128)); 3]) -> Result
     Ok(say(&lines, want))
 }
 
-// Told of both the guess is always right, and else half of the time. The second coin itself tells all there is to know.
+// Told of both the guess is always right, and else half of the time. The second coin itself tells
+// all there is to know.
 #[test]
 fn what_a_guess_needs(rt: HostRuntime) -> Result<(), Fail> {
     let alloc = rt.alloc();

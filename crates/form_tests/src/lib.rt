@@ -1,6 +1,6 @@
 //! The tests of `tree_checker`, `pure_search`, `rule_solver`, `policy_update`, `info_value`,
-//! `control_incentive`, `evidence` and `threshold`: they stand apart since a crate that has tests is proved twice, with
-//! them and without.
+//! `control_incentive`, `evidence` and `threshold`: they stand apart since a crate that has tests
+//! is proved twice, with them and without.
 #![tactic(auto)]
 
 #[cfg(test)]

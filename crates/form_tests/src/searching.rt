@@ -105,7 +105,8 @@ fn whole(num: i128) -> Ratio {
     Ratio { num, den: 1 }
 }
 
-/// Whether the first equilibrium makes these choices, decision by decision and row by row, and gains this.
+/// Whether the first equilibrium makes these choices, decision by decision and row by row, and
+/// gains this.
 fn is_found(
     alloc: Global,
     diagram: &Diagram,

@@ -43,7 +43,8 @@ fn is_solved(alloc: Global) -> Result<bool, SolveFault> {
     )
 }
 
-// The reply is best for each plan, and the plan against these replies: 4 for the first and 3 for the second.
+// The reply is best for each plan, and the plan against these replies: 4 for the first and 3 for
+// the second.
 #[test]
 fn a_plan_relies_on_the_reply(rt: HostRuntime) -> Result<(), Fail> {
     assert!(rt; is_solved(rt.alloc())?);
@@ -70,7 +71,8 @@ fn has_room(alloc: Global, diagram: &Diagram) -> Result<bool, AllocError>
     }
 }
 
-/// Whether these are the reply's sums against an even choice of plans: what the pairs pay, and a plan's mass in each row.
+/// Whether these are the reply's sums against an even choice of plans: what the pairs pay, and a
+/// plan's mass in each row.
 fn are_of_reply(sums: &RowSums) -> bool {
     sums.gains.as_slice() == [1, 4, 3, 2].as_slice() && sums.masses.as_slice() == [1, 1].as_slice()
 }
@@ -86,7 +88,8 @@ fn is_summed(alloc: Global) -> Result<bool, AllocError> {
     Ok(are_of_reply(&sums))
 }
 
-/// Whether they come twice, one time after the other, by plans that are made once, in workspaces that these have left.
+/// Whether they come twice, one time after the other, by plans that are made once, in workspaces
+/// that these have left.
 fn is_summed_again(alloc: Global) -> Result<bool, AllocError> {
     let diagram = reply_diagram(alloc)?;
     if !has_room(alloc, &diagram)? {
@@ -102,7 +105,8 @@ fn is_summed_again(alloc: Global) -> Result<bool, AllocError> {
     Ok(are_of_reply(&first) && are_of_reply(&second))
 }
 
-// With an even choice of plans the reply gains in each row what the pair pays, and each row has the mass of one plan.
+// With an even choice of plans the reply gains in each row what the pair pays, and each row has the
+// mass of one plan.
 #[test]
 fn a_reply_gains_what_the_pairs_pay(rt: HostRuntime) -> Result<(), Fail> {
     assert!(rt; is_summed(rt.alloc())?);

@@ -94,7 +94,8 @@ fn is_updated(
         && updated.gains.as_slice() == gains
 }
 
-// Where neither decision gains alone, updating stays at the first states, though the second ones are worth 2.
+// Where neither decision gains alone, updating stays at the first states, though the second ones
+// are worth 2.
 #[test]
 fn a_local_optimum(rt: HostRuntime) -> Result<(), Fail> {
     let alloc = rt.alloc();
@@ -124,7 +125,8 @@ fn is_spent_at(updated: Result<Updated, UpdateFault>, allowed: u64, worth: i128)
     }
 }
 
-// After one round the pair is worth 1, and after two 2; that a third would not raise does not matter.
+// After one round the pair is worth 1, and after two 2; that a third would not raise does not
+// matter.
 #[test]
 fn rounds_are_spent(rt: HostRuntime) -> Result<(), Fail> {
     let alloc = rt.alloc();

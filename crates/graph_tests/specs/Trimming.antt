@@ -1,5 +1,5 @@
--- The small diagrams that the test runs: a chance node that two decisions see, the second of which sees the first
--- too, and a utility over both decisions.
+-- The small diagrams that the test runs: a chance node that two decisions see, the second of which
+-- sees the first too, and a utility over both decisions.
 use Rattle.std.specs.Prelude.{ℕ, Bool, true, false, List, [], ◌∷◌, ℤ, pos}
 use Rattle.maid_model.specs.Views.{DiagramView, diagram_of}
 use Rattle.sample_diagrams.specs.Nodes.{chance_node, decision_node, utility_node}
@@ -24,8 +24,8 @@ abbrev pub agent_if : Bool → ℕ
 agent_if true = 1
 agent_if false = 0
 
--- The chance node may be sure, the second decision may be forced, and it may be a rival's, to whom the utility is
--- nothing.
+-- The chance node may be sure, the second decision may be forced, and it may be a rival's, to whom
+-- the utility is nothing.
 abbrev pub example : Bool → Bool → Bool → DiagramView
 example sure forced rival = diagram_of (
     chance_node (states_if sure) [] (weights_if sure)

@@ -12,7 +12,8 @@ use sample_diagrams::{chance, decision, sample_diagram, utility};
 use std::alloc::{AllocError, Global};
 use std::test::Fail;
 
-/// Two chance nodes, a decision over both, a rival's decision over the second, and a utility over the first decision.
+/// Two chance nodes, a decision over both, a rival's decision over the second, and a utility over
+/// the first decision.
 fn diagram(alloc: Global) -> Result<Diagram, AllocError>
     ensures { IfOk result (λ d. d ≡ example) }
 {
@@ -26,8 +27,8 @@ fn diagram(alloc: Global) -> Result<Diagram, AllocError>
     sample_diagram(alloc, &nodes, 2, 0)
 }
 
-/// Whether the diagram without the first node's arc has the decision see the second node alone, and the part that leads
-/// to the utility has that node, the decision and the utility.
+/// Whether the diagram without the first node's arc has the decision see the second node alone, and
+/// the part that leads to the utility has that node, the decision and the utility.
 fn is_cut(alloc: Global) -> Result<bool, RemoveFault> {
     let whole = diagram(alloc)?;
     let less = remove_arc(alloc, &whole, 0, 2)?;
@@ -49,7 +50,8 @@ fn removes_an_arc_and_takes_a_part(rt: HostRuntime) -> Result<(), Fail> {
     Ok(())
 }
 
-/// Whether the arc from the first node is gone once it is taken out of the diagram, and the other one is there.
+/// Whether the arc from the first node is gone once it is taken out of the diagram, and the other
+/// one is there.
 fn is_lost(alloc: Global) -> Result<bool, AllocError> {
     let whole = diagram(alloc)?;
     let less = lose_arc(alloc, whole, 0, 2)?;
@@ -70,7 +72,8 @@ fn an_absent_arc_is_not_removed(rt: HostRuntime) -> Result<(), Fail> {
     Ok(())
 }
 
-/// Why the arcs from its first parent and from itself can't be added to the first decision, if they can't.
+/// Why the arcs from its first parent and from itself can't be added to the first decision, if they
+/// can't.
 fn faults(alloc: Global) -> Result<[Option<AddFault>; 2], AllocError> {
     let whole = diagram(alloc)?;
     Ok([
@@ -100,7 +103,8 @@ fn is_given(alloc: Global) -> Result<bool, MakeFault> {
     Ok(made.kind(1) == Kind::Decision && made.agent_of(1) == 1 && made.cells(1).is_empty())
 }
 
-/// Whether it does so in the diagram itself, and is a chance node with its table again where it is put back.
+/// Whether it does so in the diagram itself, and is a chance node with its table again where it is
+/// put back.
 fn is_lent(alloc: Global) -> Result<bool, MakeFault> {
     let mut whole = diagram(alloc)?;
     let _count = whole.count();
@@ -119,8 +123,8 @@ fn adds_an_arc_and_gives_control(rt: HostRuntime) -> Result<(), Fail> {
     Ok(())
 }
 
-/// What the sets of arcs tell of the arcs from the chance nodes into the two decisions: each but the last as a parent and as
-/// a child.
+/// What the sets of arcs tell of the arcs from the chance nodes into the two decisions: each but
+/// the last as a parent and as a child.
 fn told_arcs(diagram: &Diagram) -> [bool; 7] {
     let arcs = diagram.arcs();
     [
@@ -134,15 +138,16 @@ fn told_arcs(diagram: &Diagram) -> [bool; 7] {
     ]
 }
 
-/// What they tell of the diagram, of that in which the first decision doesn't see the first node, and of that in which the
-/// rival sees it.
+/// What they tell of the diagram, of that in which the first decision doesn't see the first node,
+/// and of that in which the rival sees it.
 const WHOLE: [bool; 7] = [true, true, false, false, true, true, true];
 
 const HIDDEN: [bool; 7] = [false, false, false, false, true, true, true];
 
 const SHOWN: [bool; 7] = [true, true, true, true, true, true, true];
 
-/// Whether the first decision loses the first node in the diagram itself, and sees it again where it is put back.
+/// Whether the first decision loses the first node in the diagram itself, and sees it again where
+/// it is put back.
 fn is_hidden(alloc: Global) -> Result<bool, AllocError> {
     let mut whole = diagram(alloc)?;
     let _count = whole.count();
@@ -154,7 +159,8 @@ fn is_hidden(alloc: Global) -> Result<bool, AllocError> {
     Ok(is_whole && is_hidden && is_back)
 }
 
-/// Whether the rival's decision sees the first node too in the diagram itself, and no more where it is put back.
+/// Whether the rival's decision sees the first node too in the diagram itself, and no more where it
+/// is put back.
 fn is_shown(alloc: Global) -> Result<bool, AllocError> {
     let mut whole = diagram(alloc)?;
     let _count = whole.count();
@@ -200,7 +206,8 @@ fn solved(alloc: Global) -> Result<Solved, AllocError>
     })
 }
 
-/// Whether the rival's decision becomes a chance node that tells its rule, and the first one stays a decision.
+/// Whether the rival's decision becomes a chance node that tells its rule, and the first one stays
+/// a decision.
 fn is_fixed(alloc: Global) -> Result<bool, AllocError> {
     let whole = diagram(alloc)?;
     let solved = solved(alloc)?;

@@ -1,5 +1,5 @@
-//! The tests of `diagram_graph`, `relevance_graph` and `requisite_trim`: they stand apart since a crate that has
-//! tests is proved twice, with them and without.
+//! The tests of `diagram_graph`, `relevance_graph` and `requisite_trim`: they stand apart since a
+//! crate that has tests is proved twice, with them and without.
 #![tactic(auto)]
 
 #[cfg(test)]

@@ -28,7 +28,8 @@ fn pair(alloc: Global, sees: bool) -> Result<Diagram, AllocError>
     sample_diagram(alloc, &nodes, 1, 0)
 }
 
-/// Whether the first choice relies on the second and the second on the first as told, and what order or cycle that leaves.
+/// Whether the first choice relies on the second and the second on the first as told, and what
+/// order or cycle that leaves.
 fn is_found(
     alloc: Global,
     sees: bool,

@@ -33,7 +33,8 @@ fn agent(rival: bool) -> usize
     if rival { 1 } else { 0 }
 }
 
-/// A chance node, two decisions that see it, the second of which sees the first too, and a utility over both.
+/// A chance node, two decisions that see it, the second of which sees the first too, and a utility
+/// over both.
 fn diagram(alloc: Global, sure: bool, forced: bool, rival: bool) -> Result<Diagram, AllocError>
     ensures { IfOk result (λ d. d ≡ example sure forced rival) }
 {
@@ -61,8 +62,9 @@ fn is_trimmed(
     )
 }
 
-// The first decision needs the chance node only as long as the second one tells of it. An arc from a node of one state
-// goes at once; an arc into a decision of one state may stay. A rival to whom nothing is worth anything needs nothing.
+// The first decision needs the chance node only as long as the second one tells of it. An arc from
+// a node of one state goes at once; an arc into a decision of one state may stay. A rival to whom
+// nothing is worth anything needs nothing.
 #[test]
 fn trims_anew_after_each_arc(rt: HostRuntime) -> Result<(), Fail> {
     let rows: [(bool, bool, bool, &[(usize, usize)]); 4] = [

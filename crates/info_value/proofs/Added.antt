@@ -1,4 +1,5 @@
--- Edits in a diagram in which one agent decides alone, and what is found where the first reasons don't apply.
+-- Edits in a diagram in which one agent decides alone, and what is found where the first reasons
+-- don't apply.
 use Rattle.std.proofs.Common.{◌≡◌, ◌∙◌, ℕ, List, sym, ap, subst, inl, inr}
 use Rattle.std.proofs.Math.Decide.{ℕ_discrete}
 use Rattle.std.specs.declared.alloc.AllocError.{AllocError}

@@ -1,5 +1,5 @@
--- What the steps promise one another of an arc, in the diagram in which one agent decides alone. Only private
--- functions cite it.
+-- What the steps promise one another of an arc, in the diagram in which one agent decides alone.
+-- Only private functions cite it.
 use Rattle.std.specs.Prelude.{◌≡◌, ◌≢◌, ◌++◌, ◌↔◌, ℕ, ◌<◌, Bool, true, false, List, All, length, map, IsTrue, IsFalse, IsSome}
 use Rattle.maid_model.specs.declared.diagrams.Kind.TheVariants.{Utility}
 use Rattle.maid_model.specs.Edits.{with_arc, without_arc}
@@ -22,7 +22,8 @@ pub record CanAsk (nodes : List NodeView) (arc : ℕ × ℕ) : Type 0 where
   pub no_utility : (node_at nodes arc.0).kind ≢ Utility
   pub above : IsPath (Arc nodes) arc.1 arc.0 → ⊥
 
--- d decides in the diagram in which one agent decides alone, and there each node that it may see can be asked about
+-- d decides in the diagram in which one agent decides alone, and there each node that it may see
+-- can be asked about
 pub record CanAskAll (nodes alone : List NodeView) (d : ℕ) : Type 0 where
   pub decision : IsDecision alone d
   pub arcs :

@@ -1,5 +1,5 @@
--- Why an arc into a decision has no information value: the first reason that applies, in the diagram in which only
--- one agent decides.
+-- Why an arc into a decision has no information value: the first reason that applies, in the
+-- diagram in which only one agent decides.
 use Rattle.std.specs.Prelude.{ℕ, List}
 use Rattle.maid_model.specs.Edits.{with_arc, without_arc}
 use Rattle.maid_model.specs.Relevance.{IsRequisite}
@@ -21,12 +21,13 @@ missing d x to = with_nodes d (without_arc d.nodes x to)
 abbrev pub WouldBeRequisite : List NodeView → ℕ → ℕ → Type 0
 WouldBeRequisite nodes x to = IsRequisite (with_arc nodes x to) to x
 
--- an arc that is there: worthless unless it is requisite, or the diagram without it is refused by the solver
+-- an arc that is there: worthless unless it is requisite, or the diagram without it is refused by
+-- the solver
 abbrev pub of_seen : DiagramView → ℕ → ℕ → Pass Reason
 of_seen d x to = unless (IsRequisite d.nodes to x) Worthless ▸ reason_pass (missing d x to)
 
--- an arc that is not there: it makes too much of the rules, is worthless unless it would be requisite, or the diagram
--- with it is refused by the solver
+-- an arc that is not there: it makes too much of the rules, is worthless unless it would be
+-- requisite, or the diagram with it is refused by the solver
 abbrev pub of_unseen : DiagramView → ℕ → ℕ → Pass Reason
 of_unseen d x to = rule (IsArcTooLarge d.nodes x to) TooLarge
     ▸ unless (WouldBeRequisite d.nodes x to) Worthless ▸ reason_pass (diagram_with_arc d x to)

@@ -1,4 +1,5 @@
--- What information is worth to an agent: a line for each arc into one of its decisions (Everitt et al. 2021).
+-- What information is worth to an agent: a line for each arc into one of its decisions (Everitt et
+-- al. 2021).
 use Rattle.std.specs.Prelude.{◌≡◌, ◌⊎◌, ◌↔◌, ◌==◌, ◌&&◌, not, ℕ, Bool, true, false, List, All, map, filter, pos, ◌≤ℤ◌, IsTrue, IfSome}
 use Rattle.std.specs.List.{flat_map}
 use Rattle.maid_model.specs.declared.answers.Ratio.{Ratio}
@@ -31,7 +32,8 @@ abbrev pub asked_arcs : List NodeView → ℕ → List (ℕ × ℕ)
 asked_arcs nodes agent =
     flat_map (arcs_into nodes) (filter (decides nodes agent) (numbers_of nodes))
 
--- the first reason that applies, or else the information value: of an arc that is there, or of one that is not
+-- the first reason that applies, or else the information value: of an arc that is there, or of one
+-- that is not
 abbrev pub IsFound : DiagramView → List AnswerView → ℕ → ℕ → ℕ → Bool → Found → Type 0
 IsFound d answers agent x to true found = (of_seen (alone d answers agent) x to
     ▸▸ gives (IsValueOfSeen d.nodes d.decimals answers agent x to)) (found_of found)
@@ -61,8 +63,8 @@ abbrev pub IsInfoValue : DiagramView → List AnswerView → ℕ → ℕ → ℕ
 IsInfoValue d answers agent x to r = IsValueOfSeen d.nodes d.decimals answers agent x to r
     ⊎ IsValueOfUnseen d.nodes d.decimals answers agent x to r
 
--- the worth that a line tells is the information value, and not below nought; a worthless line tells of two equal
--- optima
+-- the worth that a line tells is the information value, and not below nought; a worthless line
+-- tells of two equal optima
 abbrev pub TellsWorth : DiagramView → List AnswerView → ℕ → InfoLine → Type 0
 TellsWorth d answers agent line = IfSome (worth_of line.found) (λ r.
     IsInfoValue d answers agent line.from line.to r × (pos 0 ≤ℤ r.num))

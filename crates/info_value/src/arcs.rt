@@ -28,7 +28,8 @@ pub(crate) fn below(diagram: &Diagram, decision: usize) -> NodeSet
     descendants(diagram, NodeSet::of(decision))
 }
 
-/// Whether the decision may see the node, where `below` has the decision and all nodes that descend from it.
+/// Whether the decision may see the node, where `below` has the decision and all nodes that descend
+/// from it.
 pub(crate) fn may_see(diagram: &Diagram, below: &NodeSet, decision: usize, v: usize) -> bool
     requires within { v < length diagram.now.nodes }
     requires below { (v : ℕ) → IsIn below.now v ↔ IsPath (Arc diagram.now.nodes) decision v }

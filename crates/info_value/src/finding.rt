@@ -14,8 +14,8 @@ use diagram_graph::{add_arc_in, is_too_large, remove_arc_in};
 use optimum_gap::{Baseline, Found, edits_keep_scopes};
 use std::alloc::{AllocError, Global};
 
-/// What is found of an arc that is there, whose tail is needed or not. Where it is, the arc is taken out of the copy of the
-/// diagram, which is solved, and then the decision is put back.
+/// What is found of an arc that is there, whose tail is needed or not. Where it is, the arc is
+/// taken out of the copy of the diagram, which is solved, and then the decision is put back.
 pub(crate) fn find_seen(
     alloc: Global,
     baseline: &Baseline,
@@ -48,8 +48,8 @@ pub(crate) fn find_seen(
     Ok(found)
 }
 
-/// What is found of an arc that is not there, whose tail would be needed or not. Where it would, the arc is added to the
-/// copy of the diagram, which is solved, and then the decision is put back.
+/// What is found of an arc that is not there, whose tail would be needed or not. Where it would,
+/// the arc is added to the copy of the diagram, which is solved, and then the decision is put back.
 pub(crate) fn find_unseen(
     alloc: Global,
     baseline: &Baseline,

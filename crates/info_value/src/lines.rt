@@ -67,7 +67,8 @@ fn info_line(
     }
 }
 
-/// Appends a line for each arc into the decision that is asked about. One search tells what the decision needs.
+/// Appends a line for each arc into the decision that is asked about. One search tells what the
+/// decision needs.
 fn push_lines_into(
     alloc: Global,
     lines: &mut Vec<InfoLine>,
@@ -119,19 +120,22 @@ fn info_lines(
     Ok(lines)
 }
 
-/// What information is worth to the agent: a line for each of its decisions in text order and each other chance node or
-/// decision in text order that does not descend from it.
+/// What information is worth to the agent: a line for each of its decisions in text order and each
+/// other chance node or decision in text order that does not descend from it.
 ///
-/// Everything is asked in the diagram in which only this agent decides and the others take the answered choices. A line
-/// says the first of these that applies: `TooLarge` where the arc is not there and can't be added for the limits on
-/// rules; `Worthless` where the arc is not requisite, or would not be; `Cycle`, `Bound` or `TooLarge` where the solver
-/// refuses the diagram without the arc, or with it; and else `Value`, the optimum with the arc less that without it.
+/// Everything is asked in the diagram in which only this agent decides and the others take the
+/// answered choices. A line says the first of these that applies: `TooLarge` where the arc is not
+/// there and can't be added for the limits on rules; `Worthless` where the arc is not requisite, or
+/// would not be; `Cycle`, `Bound` or `TooLarge` where the solver refuses the diagram without the
+/// arc, or with it; and else `Value`, the optimum with the arc less that without it.
 ///
-/// The optimum of the diagram as it is is the answer's own gain, and one search of the graph tells of all arcs into a
-/// decision. So a line that says `Worthless`, or `TooLarge` for the limits on rules, costs neither an edit nor a search of
-/// its own. Each other line costs one edit and one run of the solver. The lines share one copy of the diagram, in which
-/// one decision after another gains or loses an arc; the first line that edits it makes it. The plans of the utilities'
-/// worths are made once, and a run makes those anew to which the line's decision leads. The runs share their workspaces.
+/// The optimum of the diagram as it is is the answer's own gain, and one search of the graph tells
+/// of all arcs into a decision. So a line that says `Worthless`, or `TooLarge` for the limits on
+/// rules, costs neither an edit nor a search of its own. Each other line costs one edit and one run
+/// of the solver. The lines share one copy of the diagram, in which one decision after another
+/// gains or loses an arc; the first line that edits it makes it. The plans of the utilities' worths
+/// are made once, and a run makes those anew to which the line's decision leads. The runs share
+/// their workspaces.
 ///
 /// # Errors
 ///

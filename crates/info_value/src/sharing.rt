@@ -15,7 +15,8 @@ use std::alloc::{AllocError, Global};
 /// What the lines share, once one of them has solved an edited diagram.
 #[derive(Drop)]
 pub(crate) struct Shared {
-    /// A copy of the diagram before the edits. A line that edits it takes it, and gives it back as it was.
+    /// A copy of the diagram before the edits. A line that edits it takes it, and gives it back as
+    /// it was.
     pub copy: Option<Diagram>,
     /// The plans of the utilities' worths in the diagram before the edits.
     pub worths: Option<Vec<Plan>>,
@@ -40,8 +41,9 @@ impl Shared {
         }
     }
 
-    /// What is kept for the run in an edited diagram, in which the parents of one node alone are other than in the diagram
-    /// before: the plans of the worths, of which those stay to which that node does not lead.
+    /// What is kept for the run in an edited diagram, in which the parents of one node alone are
+    /// other than in the diagram before: the plans of the worths, of which those stay to which that
+    /// node does not lead.
     pub(crate) fn keep(
         &mut self,
         alloc: Global,

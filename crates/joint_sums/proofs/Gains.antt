@@ -1,5 +1,5 @@
--- The gain of the joint sum: a sum over all worlds, of which the tables of the scope are left, is the sum of the goals'
--- parts, and so are their plans; the totals left out cancel.
+-- The gain of the joint sum: a sum over all worlds, of which the tables of the scope are left, is
+-- the sum of the goals' parts, and so are their plans; the totals left out cancel.
 use Rattle.std.proofs.Common.{◌≡◌, ◌⊎◌, ◌∙◌, ℕ, Bool, true, false, not, cond, ◌&&◌, filter, List, [], ◌∷◌, refl, sym, ap, subst, inl, inr, ℤ, pos, ◌*ℤ◌}
 use Rattle.std.proofs.Math.Path.{fun_ext}
 use Rattle.maid_model.specs.Gains.{sum_worlds, weight_without, is_at}

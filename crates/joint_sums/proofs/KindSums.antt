@@ -1,4 +1,5 @@
--- Cells of any kind that stand for pairs: the gain of their joint sum, as the program's kind of pairs has it.
+-- Cells of any kind that stand for pairs: the gain of their joint sum, as the program's kind of
+-- pairs has it.
 use Rattle.std.proofs.Common.{◌≡◌, ◌∙◌, ℕ, List, refl, ap, pos, ◌*ℤ◌}
 use Rattle.finite_sums.specs.Sums.{World, InRange, sum_each}
 use Rattle.maid_model.specs.Graph.{IsGraph}

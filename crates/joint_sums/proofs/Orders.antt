@@ -1,4 +1,5 @@
--- The first tables look at their scopes, so elimination gives the joint sum; and a map of cells takes it along.
+-- The first tables look at their scopes, so elimination gives the joint sum; and a map of cells
+-- takes it along.
 use Rattle.std.proofs.Common.{◌∙◌, ℕ, map, List, [], ◌∷◌, sym, ap, nat_abs}
 use Rattle.std.proofs.Math.Path.{fun_ext}
 use Rattle.maid_model.specs.Nodes.{states_of}

@@ -1,4 +1,5 @@
--- In pairs the product of the first tables has as gain the product of the weights times the sum of the values.
+-- In pairs the product of the first tables has as gain the product of the weights times the sum of
+-- the values.
 use Rattle.std.proofs.Common.{◌≡◌, ◌∙◌, ℕ, Bool, true, false, not, cond, eqb, filter, map, List, [], ◌∷◌, refl, sym, ap, arith, ℤ, pos, ◌+ℤ◌, ◌*ℤ◌, nat_abs}
 use Rattle.std.proofs.lemmas.Int.{ints}
 use Rattle.maid_model.specs.Tables.{table}

@@ -1,5 +1,5 @@
--- The nodes that are summed out are those of the goals' plans: a path from such a node leads to the decision, which each
--- plan keeps, or to a goal.
+-- The nodes that are summed out are those of the goals' plans: a path from such a node leads to the
+-- decision, which each plan keeps, or to a goal.
 use Rattle.std.proofs.Common.{◌≡◌, ◌≢◌, ◌⊎◌, ◌∙◌, ℕ, true, false, not, List, ◌∷◌, subst, inl, inr, ap, Contains, Some, refl}
 use Rattle.maid_model.specs.declared.diagrams.Kind.TheVariants.{Utility}
 use Rattle.maid_model.specs.Graph.{Arc, Descends, IsGraph, IsPath, Here, Along}

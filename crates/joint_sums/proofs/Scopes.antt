@@ -1,5 +1,5 @@
--- The last table of goals summed together looks at the decision and its parents: the parents are held by their own
--- tables, and the decision by that of a child or of a goal.
+-- The last table of goals summed together looks at the decision and its parents: the parents are
+-- held by their own tables, and the decision by that of a child or of a goal.
 use Rattle.std.proofs.Common.{◌≡◌, ◌∙◌, ℕ, ◌<◌, Bool, true, false, not, ◌&&◌, ◌||◌, eqb, map, List, [], ◌∷◌, length, refl, sym, ap, subst, inl, inr, arith}
 use Rattle.std.specs.List.{list_any}
 use Rattle.std.proofs.Math.Decide.{ℕ_discrete}

@@ -1,4 +1,5 @@
--- Several goals of a decision summed together: the nodes of its scope, their first tables, and the joint sum.
+-- Several goals of a decision summed together: the nodes of its scope, their first tables, and the
+-- joint sum.
 use Rattle.std.specs.Prelude.{◌↔◌, ℕ, ◌*◌, ◌<◌, not, ◌==◌, List, ◌∷◌, ◌++◌, length, map, filter, Contains}
 use Rattle.finite_sums.specs.Sums.{World, nat_product_over}
 use Rattle.maid_model.specs.Graph.{AllDifferent}
@@ -30,8 +31,8 @@ abbrev pub joint_tables :
 joint_tables c nodes p d us = map (λ v. node_table c nodes p v) (joint_ruled nodes d)
     ++ map (λ u. utility_table c nodes u) us
 
--- the joint sum at the states of the decision and its parents: over the states of the other nodes, of the product of
--- the first tables
+-- the joint sum at the states of the decision and its parents: over the states of the other nodes,
+-- of the product of the first tables
 abbrev pub joint_sum :
     {C : Type 0} → Cells C → List NodeView → List RuleView → ℕ → List ℕ → World → C
 joint_sum c nodes p d us q = ring_sum_over c.ring (states_of nodes) (joint_summed nodes d)

@@ -1,4 +1,5 @@
--- Laws of the joint sum: what it comes to, how it is got by elimination, and how large its cells get.
+-- Laws of the joint sum: what it comes to, how it is got by elimination, and how large its cells
+-- get.
 use Rattle.std.specs.Prelude.{◌≡◌, ◌↔◌, ℕ, List, ◌∷◌, Contains, pos, ◌*ℤ◌}
 use Rattle.finite_sums.specs.Sums.{World, InRange, sum_each}
 use Rattle.maid_model.specs.Graph.{IsGraph}
@@ -14,8 +15,8 @@ use Rattle.plan_sums.specs.Plans.{Cells, both_cells, gain_cells, has, eliminated
 use Rattle.scope_sums.specs.Missing.{missing_in}
 use Rattle.joint_sums.specs.Joint.{joint_summed, joint_tables, joint_sum, joint_bound, IsJointOrder, AreGoals}
 
--- The gain of the joint sum in pairs is the sum of the goals' own plans, each times the totals of the scope's nodes
--- that the plan lacks.
+-- The gain of the joint sum in pairs is the sum of the goals' own plans, each times the totals of
+-- the scope's nodes that the plan lacks.
 abbrev pub JointGains : Type 0
 JointGains = (nodes : List NodeView) (p : List RuleView) (d : ℕ) (us : List ℕ) (q : World)
     → IsGraph nodes → HasChanceTables nodes → IsProfile nodes p → IsDecision nodes d
@@ -33,8 +34,8 @@ RunsJoint c = (nodes : List NodeView) (p : List RuleView) (d : ℕ) (us steps : 
     → product_of c.ring (eliminate c.ring (states_of nodes) steps (joint_tables c nodes p d us)) q
     ≡ joint_sum c nodes p d us q
 
--- Sizes: in each step all partial products and sums, and the products at the end, are at most the product of the totals
--- of the tables and of what bounds the cells of the utilities.
+-- Sizes: in each step all partial products and sums, and the products at the end, are at most the
+-- product of the totals of the tables and of what bounds the cells of the utilities.
 abbrev pub JointFits : {C : Type 0} → Cells C → (C → ℕ) → Type 0
 JointFits c size = (nodes : List NodeView) (p : List RuleView) (d : ℕ) (us steps : List ℕ)
     → IsGraph nodes → HasChanceTables nodes → IsProfile nodes p → AreGoals nodes d us
@@ -61,7 +62,8 @@ abbrev pub MapsJoint : {C D : Type 0} → Cells C → Cells D → (C → D) → 
 MapsJoint c e f = (nodes : List NodeView) (p : List RuleView) (d : ℕ) (us : List ℕ) (q : World)
     → f (joint_sum c nodes p d us q) ≡ joint_sum e nodes p d us q
 
--- The nodes that are summed out are those that the plans of the decision's goals eliminate, if it has a goal.
+-- The nodes that are summed out are those that the plans of the decision's goals eliminate, if it
+-- has a goal.
 abbrev pub SummedByPlans : Type 0
 SummedByPlans = (nodes : List NodeView) (d goal v : ℕ) → IsGraph nodes → IsDecision nodes d
     → IsGoal nodes d goal

@@ -1,4 +1,5 @@
-//! What the sum of several goals of a decision is, when they are summed together in pairs of a mass and a gain.
+//! What the sum of several goals of a decision is, when they are summed together in pairs of a mass
+//! and a gain.
 #![tactic(auto)]
 
 mod joint_laws;

@@ -1,6 +1,6 @@
-//! The pieces of which lines are made: whole numbers, fractions, strings between quotes, and nodes' names. They are
-//! appended to bytes that stand already, one at a time or several in one call, or joined to a new text; what bytes hold
-//! after a refusal is not said.
+//! The pieces of which lines are made: whole numbers, fractions, strings between quotes, and nodes'
+//! names. They are appended to bytes that stand already, one at a time or several in one call, or
+//! joined to a new text; what bytes hold after a refusal is not said.
 #![tactic(auto)]
 
 mod names;

@@ -16,7 +16,8 @@ fn push_escaped(out: &mut Vec<u8>, byte: u8) -> Result<(), AllocError>
     Ok(())
 }
 
-/// Appends a label or an agent's name between quotes, with a backslash before each quote and backslash in it.
+/// Appends a label or an agent's name between quotes, with a backslash before each quote and
+/// backslash in it.
 pub fn push_quoted(out: &mut Vec<u8>, bytes: &[u8]) -> Result<(), AllocError>
     ensures { PushAppends out.old out.new result (quoted bytes.now) }
 {

@@ -1,4 +1,5 @@
--- What calls tell is handed on: by a `?`, by a line that is told if there is memory for it, and by a whole write.
+-- What calls tell is handed on: by a `?`, by a line that is told if there is memory for it, and by
+-- a whole write.
 use Rattle.std.proofs.Common.{◌≡◌, ◌==◌, ◌≤◌, ℕ, arith, false, inl, inr, ◌⊎◌, IfErr, OnOk, OnErr, Result, Ok, Err, ap}
 use Rattle.std.proofs.lemmas.Result.{err_from_is_err_and}
 use Rattle.std.specs.Result.{IsErr, IsErrAnd}

@@ -1,4 +1,5 @@
--- The second step of a check: where nothing is found in the first file, the words lead to the report.
+-- The second step of a check: where nothing is found in the first file, the words lead to the
+-- report.
 use Rattle.std.proofs.Common.{◌≡◌, inr, ℕ, List, Option, Result, Ok, Err, refl, subst}
 use Rattle.maid_io.specs.Device.{File}
 use Rattle.maid_model.specs.Names.{NamesView}

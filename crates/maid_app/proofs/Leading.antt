@@ -1,4 +1,5 @@
--- Where the words lead: to the request that they name, or behind the first file of a check to its report.
+-- Where the words lead: to the request that they name, or behind the first file of a check to its
+-- report.
 use Rattle.std.proofs.Common.{◌≡◌, ◌<◌, ◌≤◌, inl, inr, ◌⊎◌, ℕ, List, length, Option, None, Some, IsSomeAnd, Ok, sym, subst, ap, ◌∙◌, arith}
 use Rattle.maid_io.specs.Device.{File, file_of}
 use Rattle.app_forms.specs.Answers.{Answers, FindsNothing}
@@ -59,15 +60,16 @@ same_judged files asked own request j k =
     let text : j.text ≡ k.text = cc in
     j.judges ∙ ap (λ t. judge t j.report) text ∙ ap (judge k.text) report ∙ sym k.judges
 
--- two requests to which the same words lead are one, or one of them is a check whose first file was passed
+-- two requests to which the same words lead are one, or one of them is a check whose first file was
+-- passed
 meet : (files : List File) (asked own request : Request) → LeadsTo (Some files) asked own → LeadsTo (Some files) asked request → (own ≡ request) ⊎ (IsPassed files request ⊎ IsPassed files own)
 meet files asked own request (inl e) (inl f) = inl (e ∙ sym f)
 meet files asked own request (inr j) (inr k) = inl (same_judged files asked own request j k)
 meet files asked own request (inr j) (inl f) = inr (inl (passed files asked own request j f))
 meet files asked own request (inl e) (inr k) = inr (inr (passed files asked request own k e))
 
--- What holds of the run's own request holds of another to which the words lead, unless that is a check that was passed; and
--- of a check that was passed it does not hold.
+-- What holds of the run's own request holds of another to which the words lead, unless that is a
+-- check that was passed; and of a check that was passed it does not hold.
 pub of_request : (files : List File) (asked request : Request) (P : Request → Type 0) → LeadsTo (Some files) asked request → ((own : Request) → IsPassed files own → P own → ⊥)
     → OfRequest (Some files) (Some asked) P → P request ⊎ IsPassed files request
 of_request files asked request P leads not_passed has = by (meet files asked has.0 request has.1 leads) where

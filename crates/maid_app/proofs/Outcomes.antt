@@ -168,7 +168,8 @@ module _ (laws : RequestLaws) (list : Option (List File)) (requested : Option Re
     at_bytes status text = subst (λ b. Answers request b (Ok (written status text.0))) (same text.1.bytes text.1.is_text) text.1.answers
 
     module _ (fits : length bytes ≤ limit_of request) where
-      -- an end of bytes within the limit, but for causes of reading and writing: what their refusal comes to
+      -- an end of bytes within the limit, but for causes of reading and writing: what their refusal
+      -- comes to
       by_bytes : (Goal : Status → Type 0) (s : Status) (t : List ℕ) → Says list requested given s t → (IsPassed has.files request → Goal s) → ((t : List ℕ) → Answers request bytes (Err (refused s t)) → Goal s)
           → Goal NoMemory → (s ≡ ReadFault → ⊥) → (s ≡ WriteFault → Goal WriteFault) → Goal s
       by_bytes Goal s t says passed of memory_too no_read no_write = by s (here s t says) passed of no_read no_write where

@@ -1,4 +1,5 @@
--- What the steps of a run come to before anything is written. Only contracts of private functions cite this.
+-- What the steps of a run come to before anything is written. Only contracts of private functions
+-- cite this.
 use Rattle.std.specs.Prelude.{◌≡◌, ◌≢◌, ◌↔◌, ◌⊎◌, ℕ, List, Option, None, Some, String, IfOk, IfErr, Result, Err}
 use Rattle.std.specs.Global.{Vec}
 use Rattle.maid_io.specs.Device.{File}
@@ -29,8 +30,8 @@ abbrev pub HasNoText : Option (List File) → Request → ℕ → Status → Lis
 HasNoText list request given NoMemory told = told ≡ no_memory_line
 HasNoText list request given status told = HasNoBytes list request given status told
 
--- what was asked leads to a request whose text this is, and the files keep their limits, whatever the
--- run ends with
+-- what was asked leads to a request whose text this is, and the files keep their limits, whatever
+-- the run ends with
 pub record LeadsToText
     (list : Option (List File)) (asked : Request) (given : ℕ) (output : Output) : Type 0 where
   pub request : Request

@@ -37,8 +37,8 @@ IsTextFor list (demo k) given bytes = bytes ≡ demo_text k
 IsTextFor list request given bytes =
     IsFileText list (file_name request) (limit_of request) given bytes
 
--- In the file that the words of a check name first, which keeps its limit and where the list is told
--- has these bytes, nothing is found: the report in the other file is to be judged.
+-- In the file that the words of a check name first, which keeps its limit and where the list is
+-- told has these bytes, nothing is found: the report in the other file is to be judged.
 pub record IsJudging (list : Option (List File)) (asked request : Request) : Type 0 where
   pub file : List ℕ
   pub report : List ℕ
@@ -158,8 +158,8 @@ abbrev pub HasNoBytes : Option (List File) → Request → ℕ → Status → Li
 HasNoBytes list request given status told =
     IsOfFile request × IsUnread list (file_name request) (limit_of request) given status told
 
--- What a status tells behind which not the whole text was written, and the line that is told with it:
--- of the words, of reading, of writing, of memory, or else of the request's bytes.
+-- What a status tells behind which not the whole text was written, and the line that is told with
+-- it: of the words, of reading, of writing, of memory, or else of the request's bytes.
 abbrev pub Says : Option (List File) → Option Request → ℕ → Status → List ℕ → Type 0
 Says list requested given Usage told = (requested ≡ None) × (told ≡ usage_line)
 Says list requested given Absent told =

@@ -2,8 +2,8 @@
 //!
 //! [`run`] takes the words of a command line, reads the files that they name, and writes one text.
 //! Its contract is the program's: which status it ends with and when, and what `out` and `err`
-//! took. The way is the same for each form of words: the words are of an [`app_forms::Form`], a pure
-//! function makes the form's text from the file's bytes or refuses, and only then `out` is
+//! took. The way is the same for each form of words: the words are of an [`app_forms::Form`], a
+//! pure function makes the form's text from the file's bytes or refuses, and only then `out` is
 //! written. A refusal knows its status and its line for `err`.
 #![tactic(auto)]
 

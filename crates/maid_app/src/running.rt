@@ -129,7 +129,8 @@ fn text_output<H: Shelf>(
     })
 }
 
-// What a check writes: the verdict. The report's file is started once nothing is found in the diagram's.
+// What a check writes: the verdict. The report's file is started once nothing is found in the
+// diagram's.
 fn check_output<H: Shelf>(
     alloc: Global,
     shelf: &mut H,
@@ -207,7 +208,8 @@ fn serve<H: Shelf, O: Sink>(
 
 /// Runs the program on the words after its name, and answers how it ended.
 ///
-/// The words are those of one form. Each but `demo` names a file F of the shelf, which has a diagram:
+/// The words are those of one form. Each but `demo` names a file F of the shelf, which has a
+/// diagram:
 ///
 /// | Words | What `out` takes |
 /// |---|---|
@@ -228,11 +230,11 @@ fn serve<H: Shelf, O: Sink>(
 /// nothing, and else one line that says why.
 ///
 /// The order of refusals is [`Status::Usage`] where the words are of no form, [`Status::Absent`],
-/// [`Status::ReadFault`] and [`Status::TextTooLong`] for a file, [`Status::TextFault`] for its bytes,
-/// those of the form's own stages in their order (`Task`), and last [`Status::WriteFault`]. For
-/// `check` those of a file come again for the report's, with [`Status::TextFault`] for bytes that are
-/// no report. [`Status::NoMemory`] may come at any point after the words and before the first write.
-/// A fault of `err` changes nothing else.
+/// [`Status::ReadFault`] and [`Status::TextTooLong`] for a file, [`Status::TextFault`] for its
+/// bytes, those of the form's own stages in their order (`Task`), and last [`Status::WriteFault`].
+/// For `check` those of a file come again for the report's, with [`Status::TextFault`] for bytes
+/// that are no report. [`Status::NoMemory`] may come at any point after the words and before the
+/// first write. A fault of `err` changes nothing else.
 pub fn run<H: Shelf, O: Sink, E: Sink>(
     alloc: Global,
     words: &[String],

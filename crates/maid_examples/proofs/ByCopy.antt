@@ -37,7 +37,7 @@ on_leader graph =
     unseen (inl e) = omega arith
     unseen (inr m) = m
 
--- ---- the leader relies on nobody: from a new parent of the follower walks lead to it and to its pay alone
+-- ---- the leader relies on nobody: from a new parent of the follower walks lead to it and its pay
 data Step : ℕ → ℕ → Type 0 where
   There : Step 5 2
   Aside : Step 2 4

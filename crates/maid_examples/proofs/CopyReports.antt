@@ -1,4 +1,5 @@
--- What is answered by a copy: the bases and the rows by computation, and what a wrong entry would ask for.
+-- What is answered by a copy: the bases and the rows by computation, and what a wrong entry would
+-- ask for.
 use Rattle.std.proofs.Common.{◌≡◌, ℕ, zero, suc, ◌*◌, ◌<◌, List, [], ◌∷◌, take, slice_index, slice_index_or, refl, sym, ap, subst, inl, inr, arith, pos, ◌*ℤ◌, ◌≤ℤ◌, ◌<ℤ◌, nat_abs, Option, Some, None, IfSome, Contains}
 use Rattle.std.proofs.lemmas.Int.{ints}
 use Rattle.std.proofs.lemmas.List.Elements.{All-cons}

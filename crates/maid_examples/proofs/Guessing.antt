@@ -99,7 +99,7 @@ both_matter (suc (suc (suc zero))) k = λ x a. one_of x (among_of (0 ∷ 2 ∷ [
 both_matter (suc (suc (suc (suc zero)))) k = let e = k.kind in absurd (cc)
 both_matter (suc (suc (suc (suc (suc d))))) k = let e = k.kind in absurd (cc)
 
--- ---- coin 0 alone: walks from it lead to the common child, where they end, and to the guess and back
+-- ---- coin 0 alone: walks lead to the common child, where they end, and to the guess and back
 data Step : ℕ → ℕ → Type 0 where
   Beside : Step 0 2
   There : Step 0 3

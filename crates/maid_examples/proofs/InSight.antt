@@ -1,4 +1,5 @@
--- The answer in sight: nobody relies on anybody, so each base is uniform, and the rows come by computation.
+-- The answer in sight: nobody relies on anybody, so each base is uniform, and the rows come by
+-- computation.
 use Rattle.std.proofs.Common.{◌≡◌, ◌⊎◌, ◌∙◌, ◌↔◌, ℕ, zero, suc, ◌*◌, ◌<◌, List, [], ◌∷◌, take, slice_index, slice_index_or, refl, sym, subst, subst₂, inl, inr, arith, pos, ◌≤ℤ◌, ◌<ℤ◌, Option, Some, None, IfSome, Contains}
 use Rattle.std.proofs.lemmas.Int.{ints}
 use Rattle.std.proofs.lemmas.List.Elements.{All-cons}

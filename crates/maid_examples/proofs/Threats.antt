@@ -1,4 +1,5 @@
--- The threat that holds at the start and isn't subgame-perfect: what other profiles are worth, by their weights.
+-- The threat that holds at the start and isn't subgame-perfect: what other profiles are worth, by
+-- their weights.
 use Rattle.std.proofs.Common.{◌≡◌, ℕ, zero, suc, ◌<◌, List, [], ◌∷◌, map, length, refl, sym, subst, subst₂, arith, rules, ℤ, pos, ◌+ℤ◌, ◌*ℤ◌, ◌≤ℤ◌, ◌<ℤ◌}
 use Rattle.std.proofs.lemmas.Int.{ints}
 use Rattle.maid_model.specs.Laws.{TestsDiagrams, TestsProfiles}

@@ -1,4 +1,5 @@
--- No active walk leaves a set of steps that is closed: it holds the first step of each walk, and with each step those that may follow.
+-- No active walk leaves a set of steps that is closed: it holds the first step of each walk, and
+-- with each step those that may follow.
 use Rattle.std.proofs.Common.{◌≡◌, ◌⊎◌, ◌↔◌, ℕ, List, [], ◌∷◌, sym, subst, inl, inr}
 use Rattle.maid_model.specs.Walks.{IsJoined, IsCollider, IsActive, last_of, IsReached}
 

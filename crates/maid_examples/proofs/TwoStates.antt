@@ -1,4 +1,5 @@
--- One agent between two states: answers, accepted reports and optima by computation, since no rule of another decision is looked at.
+-- One agent between two states: answers, accepted reports and optima by computation, since no rule
+-- of another decision is looked at.
 use Rattle.std.proofs.Common.{◌≡◌, ◌∙◌, ℕ, zero, suc, ◌*◌, ◌<◌, List, [], ◌∷◌, take, slice_index, slice_index_or, refl, sym, ap, subst, arith, ℤ, pos, ◌*ℤ◌, ◌≤ℤ◌, ◌<ℤ◌, Option, Some, None, IfSome, Contains}
 use Rattle.std.proofs.lemmas.List.Elements.{All-cons}
 use Rattle.std.proofs.lemmas.Int.{ints}

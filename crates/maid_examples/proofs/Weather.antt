@@ -115,7 +115,8 @@ alone (suc zero) k = refl
 alone (suc (suc zero)) k = let e = k.kind in absurd (cc)
 alone (suc (suc (suc v))) k = let e = k.kind in absurd (cc)
 
--- in the sun the base has mass 3, and to go gains more: no base's rules are looked at, as there is one decision
+-- in the sun the base has mass 3, and to go gains more: no base's rules are looked at, as there is
+-- one decision
 stay_not_best : IsBestInBases trip stay → ⊥
 stay_not_best b =
     let at = b.best 1 outing in

@@ -1,4 +1,5 @@
--- Who makes the weather: a profile's gain is a sum of products of two weights, of which 7 a product is the most.
+-- Who makes the weather: a profile's gain is a sum of products of two weights, of which 7 a product
+-- is the most.
 use Rattle.std.proofs.Common.{◌≡◌, ℕ, zero, suc, ◌+◌, ◌*◌, List, [], ◌∷◌, map, slice_index, refl, ap, arith, pos, ◌*ℤ◌, ◌≤ℤ◌}
 use Rattle.std.proofs.lemmas.Int.{ints}
 use Rattle.maid_model.specs.Laws.{TestsProfiles}

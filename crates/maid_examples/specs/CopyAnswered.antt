@@ -1,4 +1,5 @@
--- A leader who cares for its own choice alone, a follower who sees a copy of it, and what is answered.
+-- A leader who cares for its own choice alone, a follower who sees a copy of it, and what is
+-- answered.
 use Rattle.std.specs.Prelude.{ℤ, List, [], ◌∷◌, pos}
 use Rattle.maid_model.specs.declared.answers.Row.{Row}
 use Rattle.maid_model.specs.Views.{NodeView, RuleView, DiagramView, SolvedView}
@@ -10,7 +11,8 @@ use Rattle.maid_model.specs.Accepted.{IsAccepted}
 use Rattle.maid_laws.specs.Exchange.{IsBestInBases}
 use Rattle.maid_examples.specs.Samples.{leader, copy, follower, pay, rule, whole, reached, never}
 
--- The first state is worth 1 to the leader, and the second 0; the follower gets 1 where it takes the leader's state.
+-- The first state is worth 1 to the leader, and the second 0; the follower gets 1 where it takes
+-- the leader's state.
 abbrev pub trace : List NodeView
 trace =
     leader
@@ -32,8 +34,9 @@ report leads follows leader follower = record {
   gains = whole leader ∷ whole follower ∷ [];
 }
 
--- The leader takes the first state, worth 1. Against that the copy shows the first state alone: there the follower
--- takes the first state too, worth 1. The row of the second is never reached and takes the first state. Each gets 1.
+-- The leader takes the first state, worth 1. Against that the copy shows the first state alone:
+-- there the follower takes the first state too, worth 1. The row of the second is never reached and
+-- takes the first state. Each gets 1.
 abbrev pub answer : SolvedView
 answer = report (reached 0 1 ∷ []) (reached 0 1 ∷ never 0 ∷ []) (pos 1) (pos 1)
 
@@ -61,7 +64,8 @@ lesser_state = report (reached 1 0 ∷ []) (never 0 ∷ reached 1 1 ∷ []) (pos
 abbrev pub gain_off : SolvedView
 gain_off = report (reached 0 1 ∷ []) (reached 0 1 ∷ never 0 ∷ []) (pos 1) (pos 2)
 
--- it is a diagram; the follower relies on the leader, whose choice it doesn't see, and the leader on nobody
+-- it is a diagram; the follower relies on the leader, whose choice it doesn't see, and the leader
+-- on nobody
 pub record HasReliance : Type 0 where
   pub diagram : IsDiagram trace_diagram
   pub on_leader : ReliesOn trace 2 0

@@ -1,5 +1,6 @@
--- A copy of the leader's choice, which the follower sees in its place. Of its eight worlds the four with a wrong copy
--- have weight 0, and the copy's total is 1: so the sums are those of the follower who sees the leader.
+-- A copy of the leader's choice, which the follower sees in its place. Of its eight worlds the four
+-- with a wrong copy have weight 0, and the copy's total is 1: so the sums are those of the follower
+-- who sees the leader.
 use Rattle.std.specs.Prelude.{ℕ, ◌<◌, List, [], ◌∷◌}
 use Rattle.maid_model.specs.Views.{NodeView, DiagramView}
 use Rattle.maid_model.specs.Diagrams.{IsDiagram}
@@ -16,15 +17,15 @@ copied = leader ∷ copy ∷ follower (1 ∷ []) ∷ leader_pay 2 ∷ follower_p
 abbrev pub copied_diagram : DiagramView
 copied_diagram = record { nodes = copied; agents = 2; decimals = 0 }
 
--- Each relies on the other: by the walk new -> 2 -> 3, and by the walk new -> 0 -> 4, since 0 isn't given. That the
--- copy never fails isn't looked at.
+-- Each relies on the other: by the walk new -> 2 -> 3, and by the walk new -> 0 -> 4, since 0 isn't
+-- given. That the copy never fails isn't looked at.
 pub record HasReliance : Type 0 where
   pub on_follower : ReliesOn copied 0 2
   pub on_leader : ReliesOn copied 2 0
 
--- Given the copy "much", the follower's histories are "much, much" and, of weight 0, "little, much": one extends
--- "much" and the other doesn't, so no subgame starts there. It's the same after "little", and after a choice and its
--- right copy.
+-- Given the copy "much", the follower's histories are "much, much" and, of weight 0, "little,
+-- much": one extends "much" and the other doesn't, so no subgame starts there. It's the same after
+-- "little", and after a choice and its right copy.
 pub record HasStarts : Type 0 where
   pub listing : IsListing copied (0 ∷ 1 ∷ 2 ∷ [])
   pub whole : IsSubgameStart copied (0 ∷ 1 ∷ 2 ∷ []) []

@@ -9,8 +9,9 @@ use Rattle.maid_model.specs.Subgames.{IsListing, IsSubgameStart, IsSubgamePerfec
 use Rattle.maid_laws.specs.Exchange.{IsBestInBases}
 use Rattle.maid_examples.specs.Samples.{leader, follower, pay, rule, HasRowSums}
 
--- The leader moves left or right, the follower in sight of it. Left is worth 2 to the leader where the follower goes
--- left too and 0 where not, right 3 and 1; the follower gets 1 where it goes the leader's way.
+-- The leader moves left or right, the follower in sight of it. Left is worth 2 to the leader where
+-- the follower goes left too and 0 where not, right 3 and 1; the follower gets 1 where it goes the
+-- leader's way.
 abbrev pub moves : List NodeView
 moves =
     leader
@@ -37,16 +38,16 @@ pub record IsSoundSample : Type 0 where
   pub of_threat : IsProfile moves threat
   pub of_called : IsProfile moves called
 
--- No agent gains by its own rules at the start: the leader gets 1, and left 0; the follower gets 1, which is the most
--- there is.
+-- No agent gains by its own rules at the start: the leader gets 1, and left 0; the follower gets 1,
+-- which is the most there is.
 pub record HoldsAtFirst : Type 0 where
   pub leader : gain_of moves threat 0 ≡ pos 1
   pub follower : gain_of moves threat 1 ≡ pos 1
   pub no_gain : (agent : ℕ) (t : List RuleView) → IsProfile moves t
       → DiffersOnlyFor moves agent threat t → IsNoBetter moves agent threat t
 
--- But a subgame starts where the leader went left, and from there the threat is worth 0 to the follower and the
--- leader's way 1: the threat is not subgame-perfect.
+-- But a subgame starts where the leader went left, and from there the threat is worth 0 to the
+-- follower and the leader's way 1: the threat is not subgame-perfect.
 pub record FailsAfterLeft : Type 0 where
   pub listing : IsListing moves (0 ∷ 1 ∷ [])
   pub start : IsSubgameStart moves (0 ∷ 1 ∷ []) (0 ∷ [])
@@ -55,8 +56,8 @@ pub record FailsAfterLeft : Type 0 where
   pub same_leader : DiffersOnlyFor moves 1 threat called
   pub not_perfect : IsSubgamePerfect moves threat → ⊥
 
--- The follower doesn't rely on the leader, so its base has uniform rules: in the row of left the threat's state gains
--- 0 and the other 1. The threat is not best in its bases.
+-- The follower doesn't rely on the leader, so its base has uniform rules: in the row of left the
+-- threat's state gains 0 and the other 1. The threat is not best in its bases.
 pub record IsNotBest : Type 0 where
   pub not_on_leader : ReliesOn moves 1 0 → ⊥
   pub left : HasRowSums moves (uniform_profile moves) 1 0 (pos 1) (pos 0) (pos 1)

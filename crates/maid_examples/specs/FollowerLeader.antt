@@ -19,22 +19,22 @@ sight_diagram = record { nodes = sight; agents = 2; decimals = 0 }
 abbrev pub mixed : ℕ → ℕ → List RuleView
 mixed much little = rule 0 (much + little) (much ∷ little ∷ []) ∷ rule 1 2 (1 ∷ 1 ∷ 1 ∷ 1 ∷ []) ∷ []
 
--- whatever weights the leader has, the follower's gains and mass in a row are the weight of that row times the same
--- numbers
+-- whatever weights the leader has, the follower's gains and mass in a row are the weight of that
+-- row times the same numbers
 pub record HasSumsInProportion : Type 0 where
   pub much : (much little : ℕ) → HasRowSums sight (mixed much little) 1 0 (negsuc 1 *ℤ pos much)
       (pos much) (pos much)
   pub little : (much little : ℕ) → HasRowSums sight (mixed much little) 1 1 (pos 5 *ℤ pos little)
       (pos 0) (pos little)
 
--- The leader relies on the follower, by the walk new -> 1 -> 2. The follower doesn't rely on the leader: given 0 and
--- 1, a walk from a new parent of 0 can only turn at 0, back to the new parent.
+-- The leader relies on the follower, by the walk new -> 1 -> 2. The follower doesn't rely on the
+-- leader: given 0 and 1, a walk from a new parent of 0 can only turn at 0, back to the new parent.
 pub record HasReliance : Type 0 where
   pub on_follower : ReliesOn sight 0 1
   pub not_on_leader : ReliesOn sight 1 0 → ⊥
 
--- A subgame starts before all, and at each state of the leader, since the follower sees it. From little on the plan
--- is worth 3 and 5, of mass 1.
+-- A subgame starts before all, and at each state of the leader, since the follower sees it. From
+-- little on the plan is worth 3 and 5, of mass 1.
 pub record HasStarts : Type 0 where
   pub listing : IsListing sight (0 ∷ 1 ∷ [])
   pub whole : IsSubgameStart sight (0 ∷ 1 ∷ []) []

@@ -46,11 +46,11 @@ asks_much = rule 0 1 (1 ∷ 0 ∷ []) ∷ rule 2 2 (1 ∷ 1 ∷ []) ∷ []
 abbrev pub asks_little : List RuleView
 asks_little = rule 0 1 (0 ∷ 1 ∷ []) ∷ rule 2 2 (1 ∷ 1 ∷ []) ∷ []
 
--- With two states: four worlds with a right copy, and the mass is 2 * 1 * 2.
---   uniform: leader 5 - 1 + 3 + 0 = 7, follower -2 + 1 + 5 + 0 = 4
--- The follower has one row; its gains are summed over what the leader asks, with the leader's weights.
---   uniform: take -2 + 5 = 3, leave 1 + 0 = 1, mass 1 + 1
---   much asked: take -2, leave 1, mass 1; little asked: take 5, leave 0, mass 1: the best state is another
+-- With two states: four worlds with a right copy, and the mass is 2 * 1 * 2. uniform: leader 5 - 1
+-- + 3 + 0 = 7, follower -2 + 1 + 5 + 0 = 4 The follower has one row; its gains are summed over what
+-- the leader asks, with the leader's weights. uniform: take -2 + 5 = 3, leave 1 + 0 = 1, mass 1 + 1
+-- much asked: take -2, leave 1, mass 1; little asked: take 5, leave 0, mass 1: the best state is
+-- another
 pub record HasJoinedSums : Type 0 where
   pub uniform : HasTwoGains joined (uniform_profile joined) (pos 7) (pos 4) 4
   pub row : HasRowSums joined (uniform_profile joined) 2 0 (pos 3) (pos 1) (pos 2)
@@ -67,8 +67,9 @@ pub record HasPartedSums : Type 0 where
   pub much_asked : HasRowSums parted asks_much 2 0 (pos 3) (pos 1) (pos 1)
   pub little_asked : HasRowSums parted asks_little 2 0 (pos 3) (pos 1) (pos 1)
 
--- The leader relies on the follower in both, by the walk new -> 2 -> 3. The follower relies on the leader by the walk
--- new -> 0 -> 1 -> 4 alone, which is none where node 1 has one state and so isn't live.
+-- The leader relies on the follower in both, by the walk new -> 2 -> 3. The follower relies on the
+-- leader by the walk new -> 0 -> 1 -> 4 alone, which is none where node 1 has one state and so
+-- isn't live.
 pub record HasReliance : Type 0 where
   pub live : IsLive joined 1
   pub on_follower : ReliesOn joined 0 2

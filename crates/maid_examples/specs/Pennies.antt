@@ -19,8 +19,8 @@ pennies =
 abbrev pub pennies_diagram : DiagramView
 pennies_diagram = record { nodes = pennies; agents = 2; decimals = 0 }
 
--- Each relies on the other, so neither can be placed first. The trail goes from the first to the second and back:
--- that is the cycle, and the one that begins with the second isn't.
+-- Each relies on the other, so neither can be placed first. The trail goes from the first to the
+-- second and back: that is the cycle, and the one that begins with the second isn't.
 pub record HasCycle : Type 0 where
   pub diagram : IsDiagram pennies_diagram
   pub on_second : ReliesOn pennies 0 1

@@ -46,7 +46,8 @@ follower parents = decision 1 parents
 abbrev pub leader_pay : ℕ → NodeView
 leader_pay follower = pay 0 (0 ∷ follower ∷ []) (pos 5 ∷ negsuc 0 ∷ pos 3 ∷ pos 0 ∷ [])
 
--- agent 1, over what is asked and the follower's choice: much is worth -2 taken and 1 left, little 5 and 0
+-- agent 1, over what is asked and the follower's choice: much is worth -2 taken and 1 left, little
+-- 5 and 0
 abbrev pub follower_pay : ℕ → ℕ → NodeView
 follower_pay asked follower = pay 1 (asked ∷ follower ∷ []) (negsuc 1 ∷ pos 1 ∷ pos 5 ∷ pos 0 ∷ [])
 
@@ -84,17 +85,14 @@ pub record HasTwoGains
 abbrev pub plan : ℕ → List RuleView
 plan follower = rule 0 1 (0 ∷ 1 ∷ []) ∷ rule follower 1 (0 ∷ 1 ∷ 1 ∷ 0 ∷ []) ∷ []
 
--- The sums of a leader and a follower who sees what is asked.
--- Four worlds: much taken, much left, little taken, little left. With uniform rules each has weight 1, and the mass
--- is 2 * 2.
---   leader: 5 - 1 + 3 + 0 = 7; follower: -2 + 1 + 5 + 0 = 4
--- Under the plan little taken has weight 1, the other worlds 0, and the mass is 1 * 1.
---   leader: 3; follower: 5
--- At the follower in a row one world is left for each state: its value is the state's gain, and the leader's weight
--- the mass.
---   much: take -2, leave 1; little: take 5, leave 0; mass 1 in both with uniform rules, 0 and 1 under the plan
--- At the leader two worlds are left for each state, each with the follower's weight.
---   uniform: much 5 - 1 = 4, little 3 + 0 = 3, mass 1 + 1; under the plan: much -1, little 3, mass 0 + 1
+-- The sums of a leader and a follower who sees what is asked. Four worlds: much taken, much left,
+-- little taken, little left. With uniform rules each has weight 1, and the mass is 2 * 2. leader: 5
+-- - 1 + 3 + 0 = 7; follower: -2 + 1 + 5 + 0 = 4 Under the plan little taken has weight 1, the other
+-- worlds 0, and the mass is 1 * 1. leader: 3; follower: 5 At the follower in a row one world is
+-- left for each state: its value is the state's gain, and the leader's weight the mass. much: take
+-- -2, leave 1; little: take 5, leave 0; mass 1 in both with uniform rules, 0 and 1 under the plan
+-- At the leader two worlds are left for each state, each with the follower's weight. uniform: much
+-- 5 - 1 = 4, little 3 + 0 = 3, mass 1 + 1; under the plan: much -1, little 3, mass 0 + 1
 pub record HasSums (nodes : List NodeView) (follower : ℕ) : Type 0 where
   pub uniform : HasTwoGains nodes (uniform_profile nodes) (pos 7) (pos 4) 4
   pub planned : HasTwoGains nodes (plan follower) (pos 3) (pos 5) 1

@@ -8,7 +8,8 @@ use Rattle.maid_model.specs.Answers.{IsAnswer}
 use Rattle.maid_model.specs.Accepted.{IsAccepted}
 use Rattle.maid_examples.specs.Samples.{leader, follower, pay, whole, reached, never}
 
--- The first state is worth 1 to the leader, and the second 0; the follower gets 1 where it takes the leader's state.
+-- The first state is worth 1 to the leader, and the second 0; the follower gets 1 where it takes
+-- the leader's state.
 abbrev pub trail : List NodeView
 trail =
     leader
@@ -35,8 +36,9 @@ pub record HasNoReliance : Type 0 where
   pub not_on_follower : ReliesOn trail 0 1 → ⊥
   pub not_on_leader : ReliesOn trail 1 0 → ⊥
 
--- The follower's base has the leader's uniform rule, so both of its rows have mass: it takes the leader's state in
--- both, worth 1. A mark at the second row, as where the follower sees a copy, is no answer and not accepted.
+-- The follower's base has the leader's uniform rule, so both of its rows have mass: it takes the
+-- leader's state in both, worth 1. A mark at the second row, as where the follower sees a copy, is
+-- no answer and not accepted.
 pub record HasAnswer : Type 0 where
   pub answered : IsAnswer trail_diagram (report (reached 0 1 ∷ reached 1 1 ∷ []))
   pub not_marked : IsAnswer trail_diagram (report (reached 0 1 ∷ never 0 ∷ [])) → ⊥

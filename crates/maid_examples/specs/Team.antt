@@ -1,4 +1,5 @@
--- A leader and a follower who share what comes of their choices, and a follower with a wish of its own beside it.
+-- A leader and a follower who share what comes of their choices, and a follower with a wish of its
+-- own beside it.
 use Rattle.std.specs.Prelude.{ℕ, ℤ, List, [], ◌∷◌, pos}
 use Rattle.maid_model.specs.declared.diagrams.Kind.TheVariants.{Decision, Utility}
 use Rattle.maid_model.specs.declared.answers.Row.{Row}
@@ -12,7 +13,8 @@ use Rattle.maid_model.specs.Answers.{IsAnswer}
 use Rattle.maid_model.specs.Subgames.{IsSubgamePerfect}
 use Rattle.maid_examples.specs.Samples.{leader, follower, pay, rule, whole, reached, HasTwoGains, HasRowSums}
 
--- what these agents get: 3 where both choices are the first state, 2 where both are the second, and else 0
+-- what these agents get: 3 where both choices are the first state, 2 where both are the second, and
+-- else 0
 abbrev pub result : ℕ → List ℕ → NodeView
 result owner more = record {
   kind = Utility;
@@ -27,7 +29,8 @@ result owner more = record {
 abbrev pub wish : NodeView
 wish = pay 1 (1 ∷ []) (pos 0 ∷ pos 2 ∷ [])
 
--- two agents, of whom the second sees the first one's choice, and behind these decisions a result and the wish
+-- two agents, of whom the second sees the first one's choice, and behind these decisions a result
+-- and the wish
 abbrev pub with_result : NodeView → NodeView → DiagramView
 with_result first result =
     record { nodes = first ∷ follower (0 ∷ []) ∷ result ∷ wish ∷ []; agents = 2; decimals = 0 }
@@ -55,15 +58,15 @@ abbrev pub both_decide : NodeView
 both_decide =
     record { kind = Decision; owner = 0; more = 1 ∷ []; states = 2; parents = []; cells = [] }
 
--- A utility that names an agent twice makes no diagram, nor one that names an agent that there is not, nor a decision
--- of two agents.
+-- A utility that names an agent twice makes no diagram, nor one that names an agent that there is
+-- not, nor a decision of two agents.
 pub record AreNone : Type 0 where
   pub named_twice : IsDiagram (with_result leader (result 0 (0 ∷ []))) → ⊥
   pub unknown_owner : IsDiagram (with_result leader (result 0 (2 ∷ []))) → ⊥
   pub shared_decision : IsDiagram (with_result both_decide (result 0 (1 ∷ []))) → ⊥
 
--- The result is the leader's and the follower's and nobody else's, and so a goal of both decisions. The wish is a
--- goal of the follower's decision alone, though it descends from both.
+-- The result is the leader's and the follower's and nobody else's, and so a goal of both decisions.
+-- The wish is a goal of the follower's decision alone, though it descends from both.
 pub record IsShared : Type 0 where
   pub of_leader : IsOwnedBy team 2 0
   pub of_follower : IsOwnedBy team 2 1
@@ -74,10 +77,10 @@ pub record IsShared : Type 0 where
   pub wish_below_leader : Descends (Arc team) 0 3
   pub wish_not_of_leader : IsGoal team 0 3 → ⊥
 
--- The result counts in full for each. With uniform rules each of the four worlds has weight 1: 3 + 2 = 5 for the
--- leader, and 2 + 2 more for the follower, of mass 4. Under the plan each gets 3.
--- At the follower, in sight of the first state, 3 and the wish's 2, in sight of the second 0 and 2 + 2, of mass 1
--- each. At the leader, against the plan, 3 and 2.
+-- The result counts in full for each. With uniform rules each of the four worlds has weight 1: 3 +
+-- 2 = 5 for the leader, and 2 + 2 more for the follower, of mass 4. Under the plan each gets 3. At
+-- the follower, in sight of the first state, 3 and the wish's 2, in sight of the second 0 and 2 +
+-- 2, of mass 1 each. At the leader, against the plan, 3 and 2.
 pub record HasSums : Type 0 where
   pub uniform : HasTwoGains team (uniform_profile team) (pos 5) (pos 9) 4
   pub planned : HasTwoGains team plan (pos 3) (pos 3) 1
@@ -98,11 +101,13 @@ report follows leads leader follower = record {
   gains = whole leader ∷ whole follower ∷ [];
 }
 
--- The follower takes the state that it sees, worth 3 and 2 + 2, and the leader the first one, worth 3. Each gets 3.
+-- The follower takes the state that it sees, worth 3 and 2 + 2, and the leader the first one, worth
+-- 3. Each gets 3.
 abbrev pub answer : SolvedView
 answer = report (reached 0 3 ∷ reached 1 4 ∷ []) (reached 0 3) (pos 3) (pos 3)
 
--- what it would be if the result were the leader's alone: the follower follows its wish, and the leader goes along
+-- what it would be if the result were the leader's alone: the follower follows its wish, and the
+-- leader goes along
 abbrev pub leaders_result : SolvedView
 leaders_result = report (reached 1 2 ∷ reached 1 2 ∷ []) (reached 1 2) (pos 2) (pos 2)
 
@@ -114,7 +119,8 @@ followers_result = report (reached 0 3 ∷ reached 1 4 ∷ []) (reached 0 0) (po
 abbrev pub halved_result : SolvedView
 halved_result = report (reached 1 2 ∷ reached 1 3 ∷ []) (reached 1 1) (pos 1) (pos 3)
 
--- the answer is one, and by a law its plan is subgame-perfect; what other shares of the result would give is none
+-- the answer is one, and by a law its plan is subgame-perfect; what other shares of the result
+-- would give is none
 pub record HasAnswer : Type 0 where
   pub answered : IsAnswer team_diagram answer
   pub perfect : IsSubgamePerfect team plan

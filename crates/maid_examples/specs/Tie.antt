@@ -51,8 +51,8 @@ pub record AreSound : Type 0 where
   pub first : IsProfile uneven (taking 1 0)
   pub second : IsProfile uneven (taking 0 1)
 
--- Of two states of worth 5 the first is the answer. The second is accepted too, if its worth and the gain are right; a
--- row that is marked as never reached is not.
+-- Of two states of worth 5 the first is the answer. The second is accepted too, if its worth and
+-- the gain are right; a row that is marked as never reached is not.
 pub record HasTie : Type 0 where
   pub answer : IsAnswer tie_diagram (report (reached 0 5) (pos 5))
   pub second_is_none : IsAnswer tie_diagram (report (reached 1 5) (pos 5)) → ⊥
@@ -62,7 +62,8 @@ pub record HasTie : Type 0 where
   pub not_of_another_gain : IsAccepted tie_diagram (report (reached 1 5) (pos 4)) → ⊥
   pub not_marked : IsAccepted tie_diagram (report (never 0) (pos 5)) → ⊥
 
--- Of 5 and 3 the first state is the answer, optimal and subgame-perfect; the second is none of these, and not accepted.
+-- Of 5 and 3 the first state is the answer, optimal and subgame-perfect; the second is none of
+-- these, and not accepted.
 pub record HasBest : Type 0 where
   pub answer : IsAnswer uneven_diagram (report (reached 0 5) (pos 5))
   pub not_accepted : IsAccepted uneven_diagram (report (reached 1 3) (pos 3)) → ⊥
@@ -73,8 +74,8 @@ pub record HasBest : Type 0 where
   pub perfect : IsSubgamePerfect uneven (taking 1 0)
   pub not_perfect : IsSubgamePerfect uneven (taking 0 1) → ⊥
 
--- An empty list of rules is no profile of a diagram with a decision, and so neither subgame-perfect nor optimal nor
--- best in its bases.
+-- An empty list of rules is no profile of a diagram with a decision, and so neither subgame-perfect
+-- nor optimal nor best in its bases.
 pub record LacksRules : Type 0 where
   pub no_profile : IsProfile uneven [] → ⊥
   pub not_perfect : IsSubgamePerfect uneven [] → ⊥

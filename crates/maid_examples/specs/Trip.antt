@@ -1,4 +1,5 @@
--- One agent sees the weather and stays or goes; and the same beside a coin that has nothing to do with it.
+-- One agent sees the weather and stays or goes; and the same beside a coin that has nothing to do
+-- with it.
 use Rattle.std.specs.Prelude.{◌≡◌, ℕ, List, [], ◌∷◌, pos, negsuc}
 use Rattle.maid_model.specs.declared.diagrams.Kind.TheVariants.{Chance}
 use Rattle.maid_model.specs.Views.{NodeView, RuleView, DiagramView, SolvedView}
@@ -53,8 +54,10 @@ pub record IsSoundSample : Type 0 where
   pub of_plan : IsProfile trip plan
   pub of_stay : IsProfile trip stay
 
--- Under the plan rain has weight 1 and sun 3: 1 * 5 + 3 * 7 = 26, of mass 4. With uniform rules 5 + 0 + 3 * (-1) + 3
--- * 7 = 23, of mass 8. To stay gives 5 - 3 = 2, of mass 4. In a row the weather's weight is the mass.
+-- Under the plan rain has weight 1 and sun 3: 1 * 5 + 3 * 7 = 26, of mass 4. With uniform rules 5 +
+-- 0 + 3 * (-1) + 3
+-- * 7 = 23, of mass 8. To stay gives 5 - 3 = 2, of mass 4. In a row the weather's weight is the
+--   mass.
 pub record HasSums : Type 0 where
   pub plan_gain : gain_of trip plan 0 ≡ pos 26
   pub plan_mass : mass trip plan ≡ 4
@@ -80,8 +83,8 @@ answer = record {
   gains = record { num = pos 13; den = 2 } ∷ [];
 }
 
--- The plan is the answer, and so best in its bases, subgame-perfect and optimal: the optimum is 13/2. To stay is none
--- of these.
+-- The plan is the answer, and so best in its bases, subgame-perfect and optimal: the optimum is
+-- 13/2. To stay is none of these.
 pub record IsTripSolved : Type 0 where
   pub answered : IsAnswer trip_diagram answer
   pub optimum : IsOptimum trip 0 0 (record { num = pos 13; den = 2 })
@@ -92,7 +95,8 @@ pub record IsTripSolved : Type 0 where
   pub stay_not_perfect : IsSubgamePerfect trip stay → ⊥
   pub stay_not_optimal : IsOptimal trip stay 0 → ⊥
 
--- Whoever makes the weather makes it sunny and goes, worth 7: control of it is worth 7 - 13/2 = 1/2.
+-- Whoever makes the weather makes it sunny and goes, worth 7: control of it is worth 7 - 13/2 =
+-- 1/2.
 pub record HasWeatherControl : Type 0 where
   pub optimum : IsOptimum (as_decision trip 0 0) 0 0 (whole (pos 7))
   pub control : IsValueOfControl trip 0 [] 0 0 (record { num = pos 1; den = 2 })
@@ -124,8 +128,8 @@ tossed_diagram = record { nodes = tossed; agents = 2; decimals = 0 }
 abbrev pub tossed_plan : List RuleView
 tossed_plan = rule 3 1 (1 ∷ 0 ∷ 0 ∷ 1 ∷ []) ∷ []
 
--- the scope of the decision makes the trip, with its plan and a fifth of its sums; and the coin no longer counts in
--- its bound
+-- the scope of the decision makes the trip, with its plan and a fifth of its sums; and the coin no
+-- longer counts in its bound
 pub record HasAPart : Type 0 where
   pub diagram : IsDiagram tossed_diagram
   pub profile : IsProfile tossed tossed_plan

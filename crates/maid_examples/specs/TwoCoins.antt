@@ -67,16 +67,18 @@ pub record AreSound : Type 0 where
 abbrev pub IsActiveIn : List NodeView → (ℕ → Type 0) → List ℕ → Type 0
 IsActiveIn nodes Given walk = IsActive (Arc nodes) (IsLive nodes) Given walk
 
--- From coin to coin a walk leads through the node that both have arrows to, if that node is given; given nothing it
--- is blocked there. From that node to the pay a walk leads through coin 1, if that coin isn't given.
+-- From coin to coin a walk leads through the node that both have arrows to, if that node is given;
+-- given nothing it is blocked there. From that node to the pay a walk leads through coin 1, if that
+-- coin isn't given.
 pub record HasWalks : Type 0 where
   pub opened : IsActiveIn told (λ v. v ≡ 2) (0 ∷ 2 ∷ 1 ∷ [])
   pub blocked : IsActiveIn told (λ v. ⊥) (0 ∷ 2 ∷ 1 ∷ []) → ⊥
   pub passed : IsActiveIn told (λ v. ⊥) (2 ∷ 1 ∷ 4 ∷ [])
   pub stopped : IsActiveIn told (λ v. v ≡ 1) (2 ∷ 1 ∷ 4 ∷ []) → ⊥
 
--- Seen together, coin 0 and whether the coins are alike tell coin 1, so both are requisite and no arc is trimmed.
--- Coin 0 alone tells nothing of coin 1: its arc is not requisite, is the first to go, and no other is left.
+-- Seen together, coin 0 and whether the coins are alike tell coin 1, so both are requisite and no
+-- arc is trimmed. Coin 0 alone tells nothing of coin 1: its arc is not requisite, is the first to
+-- go, and no other is left.
 pub record HasRequisites : Type 0 where
   pub coin_matters : IsRequisite told 3 0
   pub alike_matters : IsRequisite told 3 2
@@ -89,10 +91,9 @@ pub record HasRequisites : Type 0 where
 abbrev pub half : Ratio
 half = record { num = pos 1; den = 2 }
 
--- Told both, the guess is always right: the optimum is 1. Told one of them or nothing it is right half of the time,
--- whatever the rules: the optimum is 1/2.
--- So coin 0 is worth 1/2 beside the news whether the coins are alike, and nothing alone; and so is the news worth 1/2
--- beside coin 0.
+-- Told both, the guess is always right: the optimum is 1. Told one of them or nothing it is right
+-- half of the time, whatever the rules: the optimum is 1/2. So coin 0 is worth 1/2 beside the news
+-- whether the coins are alike, and nothing alone; and so is the news worth 1/2 beside coin 0.
 pub record HasCoinValues : Type 0 where
   pub told_optimum : IsOptimum told 0 0 (whole (pos 1))
   pub untold_optimum : IsOptimum untold 0 0 half

@@ -5,8 +5,8 @@ ghost use Rattle.maid_examples.specs.CopySeen.{copied, IsSoundSample, HasRelianc
 
 use maid_model::literals_are_tested;
 
-/// A follower who sees a copy of the leader's choice in its place: the sums stay, but each relies on the other, and no
-/// subgame starts after the leader's choice.
+/// A follower who sees a copy of the leader's choice in its place: the sums stay, but each relies
+/// on the other, and no subgame starts after the leader's choice.
 pub fn copy_in_place()
     ensures sound { IsSoundSample }
     ensures sums { HasSums copied 2 }

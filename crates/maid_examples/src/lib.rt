@@ -1,5 +1,5 @@
-//! Small diagrams on which the definitions are worked out by hand: each public function has as its contract that they
-//! come to the same.
+//! Small diagrams on which the definitions are worked out by hand: each public function has as its
+//! contract that they come to the same.
 #![tactic(auto)]
 
 mod answered;

@@ -4,8 +4,8 @@ ghost use Rattle.maid_examples.specs.NodeBetween.{AreSound, HasJoinedSums, HasPa
 
 use maid_model::literals_are_tested;
 
-/// A node between the leader's choice and what the follower gets: with two states the follower relies on the leader,
-/// and with one state it doesn't.
+/// A node between the leader's choice and what the follower gets: with two states the follower
+/// relies on the leader, and with one state it doesn't.
 pub fn one_state_between()
     ensures sound { AreSound }
     ensures joined { HasJoinedSums }

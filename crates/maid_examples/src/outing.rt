@@ -7,8 +7,8 @@ use maid_laws::{
 };
 use maid_model::literals_are_tested;
 
-/// An agent who sees the weather: sums, a subgame, the answer, a plan that is no answer, and what control of the weather
-/// is worth; and a coin beside it that is no part of it.
+/// An agent who sees the weather: sums, a subgame, the answer, a plan that is no answer, and what
+/// control of the weather is worth; and a coin beside it that is no part of it.
 pub fn a_trip()
     ensures sound { IsSoundSample }
     ensures sums { HasSums }

@@ -1,5 +1,5 @@
-//! The sums over all worlds, the worlds and the reliance that the code finds on the small diagrams: what was worked out
-//! by hand.
+//! The sums over all worlds, the worlds and the reliance that the code finds on the small diagrams:
+//! what was worked out by hand.
 
 ghost use Rattle.maid_model.specs.Profiles.{HasRule};
 
@@ -14,8 +14,8 @@ use relevance_graph::find_relevance;
 use std::alloc::{AllocError, Global};
 use std::test::Fail;
 
-/// Whether each of these decisions relies on those beside it, and this is the order of solving, or else the relevance
-/// cycle.
+/// Whether each of these decisions relies on those beside it, and this is the order of solving, or
+/// else the relevance cycle.
 fn is_found(
     alloc: Global,
     diagram: Diagram,
@@ -148,7 +148,8 @@ fn sums_of_the_team(rt: HostRuntime) -> Result<(), Fail> {
     Ok(())
 }
 
-/// Whether the weather's weights add up to this, and the uniform rule of the trip's decision has these.
+/// Whether the weather's weights add up to this, and the uniform rule of the trip's decision has
+/// these.
 fn is_weighed(alloc: Global, total: u128, weights: &[u128]) -> Result<bool, AllocError> {
     let diagram = trip(alloc)?;
     let profile = Profile::uniform(alloc, &diagram)?;

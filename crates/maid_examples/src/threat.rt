@@ -4,8 +4,8 @@ ghost use Rattle.maid_examples.specs.EmptyThreat.{IsSoundSample, HoldsAtFirst, F
 
 use maid_model::literals_are_tested;
 
-/// A threat that no agent gains by leaving, and that is neither subgame-perfect nor best in its bases:
-/// it would not be kept.
+/// A threat that no agent gains by leaving, and that is neither subgame-perfect nor best in its
+/// bases: it would not be kept.
 pub fn empty_threat()
     ensures sound { IsSoundSample }
     ensures first { HoldsAtFirst }

@@ -4,8 +4,8 @@ ghost use Rattle.maid_examples.specs.Tie.{AreSound, HasTie, HasBest, LacksRules}
 
 use maid_model::literals_are_tested;
 
-/// One agent between two states: at a tie the first is the answer and both are accepted; of two that differ one is
-/// optimal and the other isn't.
+/// One agent between two states: at a tie the first is the answer and both are accepted; of two
+/// that differ one is optimal and the other isn't.
 pub fn tie_and_best()
     ensures sound { AreSound }
     ensures tie { HasTie }

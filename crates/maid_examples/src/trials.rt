@@ -215,7 +215,8 @@ fn has_gain(
     Ok(leaf_sum(diagram, profile, agent, &mut world) == gain)
 }
 
-/// Whether the node is a decision whose sums are these: G, row by row and the state fastest, and R of each row.
+/// Whether the node is a decision whose sums are these: G, row by row and the state fastest, and R
+/// of each row.
 fn has_sums(
     alloc: Global,
     diagram: &Diagram,
@@ -270,8 +271,8 @@ fn has(
     Ok(true)
 }
 
-// Each of these tells whether its diagram has these N and sums under its rules. The law before it says that they are a
-// profile of the diagram.
+// Each of these tells whether its diagram has these N and sums under its rules. The law before it
+// says that they are a profile of the diagram.
 
 pub(crate) fn sight_uniform_has(
     alloc: Global,

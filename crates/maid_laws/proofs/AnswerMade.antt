@@ -1,4 +1,5 @@
--- An answer is made along an order of solving: each base is put together from the rules answered before, and each row takes its first best state.
+-- An answer is made along an order of solving: each base is put together from the rules answered
+-- before, and each row takes its first best state.
 use Rattle.std.proofs.Common.{◌≡◌, ◌≢◌, ◌⊎◌, ◌∙◌, ℕ, zero, suc, ◌+◌, ◌*◌, ◌^◌, ◌<◌, ◌≤◌, cond, eqb, List, [], ◌∷◌, All, flat_map, map, take, length, get_or, slice_index, refl, sym, ap, subst, inl, inr, arith, ℤ, pos, ◌≤ℤ◌, ◌<ℤ◌, nat_abs, Some, None}
 use Rattle.std.proofs.lemmas.Int.{ints}
 use Rattle.std.proofs.lemmas.List.{get_or-take, get_or_default, length-take}

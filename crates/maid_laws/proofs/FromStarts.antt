@@ -47,7 +47,8 @@ module _ (nodes : List NodeView) (g : OrderedGraph nodes) (started : ℕ → Boo
   pub mass_is : (p : List RuleView) → mass_from_start nodes started p ≡ product_over (total_from started (λ v. pos (weight_total nodes p v))) g.order
   mass_is p = product_over-shuffled (total_from started (λ v. pos (weight_total nodes p v))) g.shuffled
 
--- a profile that is best in its bases, along an order of all decisions: from no start does an agent gain
+-- a profile that is best in its bases, along an order of all decisions: from no start does an agent
+-- gain
 pub exchange_at : (nodes : List NodeView) (s : List RuleView) (choice : ℕ → ℕ → ℕ) (base : ℕ → List RuleView) (order : List ℕ)
     → OrderedGraph nodes → IsBest nodes s choice base
     → InOrder nodes [] order → ((v : ℕ) → v < length nodes → (node_at nodes v).kind ≡ Decision → Among v order)

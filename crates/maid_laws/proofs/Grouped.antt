@@ -1,4 +1,5 @@
--- The law of products: a sum over worlds whose tables fall into two groups and others that sum to their totals.
+-- The law of products: a sum over worlds whose tables fall into two groups and others that sum to
+-- their totals.
 use Rattle.std.proofs.Common.{◌≡◌, ◌≢◌, ◌∙◌, ℕ, Bool, true, false, not, eqb, filter, List, [], ◌∷◌, ◌++◌, refl, sym, ap, ℤ, ◌*ℤ◌}
 use Rattle.std.proofs.Math.Path.{fun_ext}
 use Rattle.finite_sums.specs.Members.{Among}
@@ -75,7 +76,8 @@ module _ (count : ℕ → ℕ) (table : ℕ → World → ℤ) (total : ℕ → 
   fixed_free : (o : ℕ) → Among o fixed → (u : ℕ) → Among u free → o ≢ u
   fixed_free o m u k = apart_by given o u (among_filter given o kept m).1 (passes_not given u (among_filter (λ v. not (given v)) u kept k).1)
 
-  -- the others are summed to their totals, the fixed nodes have q's states, and the rest falls into two sums
+  -- the others are summed to their totals, the fixed nodes have q's states, and the rest falls into
+  -- two sums
   pub grouped : (f : World → ℤ) (q w : World)
       → EachIgnoresAll count table kept outs → IgnoresAll count f outs → IgnoresLater count table outs → HaveTotals count table total outs
       → EachIgnoresAll count table tables_first free_second → IgnoresAll count f free_second → EachIgnoresAll count table tables_second free_first

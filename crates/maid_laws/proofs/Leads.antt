@@ -1,7 +1,8 @@
 -- Active walks as steps, over any arcs, and the lemma that separates tables by them.
 use Rattle.std.proofs.Common.{◌≡◌, ◌⊎◌, ◌↔◌, ◌∙◌, ℕ, Bool, true, false, sym, subst, inl, inr}
 
--- A walk to the goal that goes on actively from a node, entered by an arrow's head (true) or by its tail (false).
+-- A walk to the goal that goes on actively from a node, entered by an arrow's head (true) or by its
+-- tail (false).
 pub data Leads (Arc : ℕ → ℕ → Type 0) (Live Given : ℕ → Type 0) (goal : ℕ) : Bool → ℕ → Type 0 where
   ends : Leads Arc Live Given goal true goal
   head_down : {x c : ℕ} → ¬ (Given x) → Arc x c → Live c → Leads Arc Live Given goal true c → Leads Arc Live Given goal true x
@@ -36,7 +37,8 @@ module _ (Arc : ℕ → ℕ → Type 0) (Live Given : ℕ → Type 0) (goal : �
   turn (head_down m b l h) n y a = tail_down m b l h
   turn (head_up g b l h) n y a = absurd (n g)
 
-  -- Two tables that look at one live node that is not given: where a walk leads on from the one, it does from the other.
+  -- Two tables that look at one live node that is not given: where a walk leads on from the one, it
+  -- does from the other.
   pub separated : (x y z : ℕ) → Leads Arc Live Given goal true x → Live x → Live z → ¬ (Given z) → InScope Arc z x → InScope Arc z y → Live y → Reaches Arc Live Given goal y → Leads Arc Live Given goal true y
   separated x y z h lx lz nz (inl e) (inl f) ly r = subst (Leads Arc Live Given goal true) (sym e ∙ f) h
   separated x y z h lx lz nz (inl e) (inr b) ly r = bounce r z b lz ly (subst (Leads Arc Live Given goal false) (sym e) (turn h (λ g. nz (subst Given (sym e) g)) y (subst (λ v. Arc v y) e b)))

@@ -1,4 +1,5 @@
--- What the proofs go over: arcs by members of lists, a diagram with one list of its nodes, and starts as sets of nodes.
+-- What the proofs go over: arcs by members of lists, a diagram with one list of its nodes, and
+-- starts as sets of nodes.
 use Rattle.std.specs.Prelude.{◌≡◌, ◌≢◌, ℕ, ◌<◌, ◌+◌, ◌*◌, Bool, true, false, ◌||◌, not, List, [], ◌∷◌, length, slice_index, ℤ, pos, ◌*ℤ◌, ◌≤ℤ◌, ◌<ℤ◌, ◌==◌, if◌then◌else◌}
 use Rattle.std.specs.List.{list_all}
 use Rattle.maid_model.specs.declared.diagrams.Kind.TheVariants.{Chance, Decision}
@@ -27,7 +28,8 @@ pub record OrderedGraph (nodes : List NodeView) : Type 0 where
 abbrev pub extends : List NodeView → (ℕ → Bool) → World → World → Bool
 extends nodes started q w = list_all (λ v. not (started v) || (w v == q v)) (numbers_of nodes)
 
--- the gain of the agent from a start: the sum, over the worlds that extend it, of the product of the tables of the other nodes times the agent's utilities
+-- the gain of the agent from a start: the sum, over the worlds that extend it, of the product of
+-- the tables of the other nodes times the agent's utilities
 abbrev pub gain_from_start : List NodeView → (ℕ → Bool) → World → List RuleView → ℕ → ℤ
 gain_from_start nodes started q p agent = sum_worlds nodes (λ w. if extends nodes started q w then product_over (λ v. if started v then pos 1 else table nodes p v w) (numbers_of nodes) *ℤ utility nodes agent w else pos 0)
 
@@ -35,7 +37,8 @@ gain_from_start nodes started q p agent = sum_worlds nodes (λ w. if extends nod
 abbrev pub mass_from_start : List NodeView → (ℕ → Bool) → List RuleView → ℤ
 mass_from_start nodes started p = product_over (λ v. if started v then pos 1 else pos (weight_total nodes p v)) (numbers_of nodes)
 
--- A start as a set of nodes, with the parents of each, and their states, which chance can reach. No information set of a decision outside it has both worlds that extend it and others.
+-- A start as a set of nodes, with the parents of each, and their states, which chance can reach. No
+-- information set of a decision outside it has both worlds that extend it and others.
 pub record IsStart (nodes : List NodeView) (started : ℕ → Bool) (q : World) : Type 0 where
   pub range : InRange (states_of nodes) q
   pub started_inside : (v : ℕ) → started v ≡ true → v < length nodes
@@ -47,7 +50,9 @@ pub record IsStart (nodes : List NodeView) (started : ℕ → Bool) (q : World) 
 abbrev pub SameForOthers : List NodeView → ℕ → List RuleView → List RuleView → Type 0
 SameForOthers nodes agent s t = (v : ℕ) → (node_at nodes v).kind ≡ Decision → agent_of nodes v ≢ agent → (weights_of t v ≡ weights_of s v) × (rule_total t v ≡ rule_total s v)
 
--- s is pure, with these choices; base gives each decision a profile with s's weights where the decision relies and weights of 1 elsewhere; and at each row with mass in the base no state has a greater gain than the choice
+-- s is pure, with these choices; base gives each decision a profile with s's weights where the
+-- decision relies and weights of 1 elsewhere; and at each row with mass in the base no state has a
+-- greater gain than the choice
 pub record IsBest (nodes : List NodeView) (s : List RuleView) (choice : ℕ → ℕ → ℕ) (base : ℕ → List RuleView) : Type 0 where
   pub tables : HasTables nodes s
   pub total : (v : ℕ) → (node_at nodes v).kind ≡ Decision → rule_total s v ≡ 1

@@ -1,4 +1,5 @@
--- The pure profile of answered choices: a rule of total 1 at each decision, with the weight 1 at the choice of each row.
+-- The pure profile of answered choices: a rule of total 1 at each decision, with the weight 1 at
+-- the choice of each row.
 use Rattle.std.proofs.Common.{◌≡◌, ◌⊎◌, ◌∙◌, ℕ, zero, suc, ◌+◌, ◌-◌, ◌*◌, ◌<◌, Bool, true, false, cond, eqb, flat_map, List, [], ◌∷◌, ◌++◌, map, length, slice_index, slice_index_or, refl, sym, ap, subst, inl, inr, arith}
 use Rattle.std.proofs.lemmas.List.{length-map, get_or_append_left, get_or-append_right}
 use Rattle.std.proofs.lemmas.List.FromFn.{get_or-map-range_with_len}

@@ -1,4 +1,5 @@
--- Whether a decision relies on another can be told: walks are chains of steps between finitely many places, and chains are told by which places they may pass.
+-- Whether a decision relies on another can be told: walks are chains of steps between finitely many
+-- places, and chains are told by which places they may pass.
 use Rattle.std.proofs.Common.{◌≡◌, ◌≢◌, ◌⊎◌, ℕ, zero, suc, ◌<◌, Bool, true, false, List, [], ◌∷◌, length, refl, sym, ap, subst, inl, inr, arith}
 use Rattle.std.proofs.Math.Decide.{ℕ_discrete, dec_lt}
 use Rattle.maid_model.specs.declared.diagrams.Kind.{Kind}

@@ -41,7 +41,8 @@ module _ (nodes : List NodeView) (order : List ℕ) (setup : Setup nodes order) 
   pub no_utility_child : (goal : ℕ) → (node_at nodes goal).kind ≡ Utility → (c : ℕ) → ¬ (IsParent nodes goal c)
   no_utility_child goal k c a = not_both (is_utility (node_at nodes goal).kind) (ap is_utility k) (setup.parent_kind goal c a)
 
-  -- for any given nodes, steps from a node to a utility and active walks from its extra parent are one
+  -- for any given nodes, steps from a node to a utility and active walks from its extra parent are
+  -- one
   module _ (Given Fixed : ℕ → Type 0) (same : (x : ℕ) → Given x ↔ Fixed x) (goal v : ℕ) (goal_in : goal < length nodes) (goal_kind : (node_at nodes goal).kind ≡ Utility) (v_in : v < length nodes) where
     pub walk_of_steps : IsLive nodes v → Leads (IsParent nodes) (IsLive nodes) Given goal true v → IsReachedFromParent (Arc nodes) (IsLive nodes) Fixed (length nodes) v goal
     walk_of_steps lv h =

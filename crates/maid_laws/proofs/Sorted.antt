@@ -1,4 +1,5 @@
--- A finite graph without a cycle has a list in which each node stands after its parents: nodes are inserted one by one, and what led through a node that is still to come counts as an arc.
+-- A finite graph without a cycle has a list in which each node stands after its parents: nodes are
+-- inserted one by one, and what led through a node that is still to come counts as an arc.
 use Rattle.std.proofs.Common.{◌≡◌, ◌⊎◌, ℕ, List, [], ◌∷◌, ◌++◌, refl, sym, ap, subst, inl, inr}
 use Rattle.maid_model.specs.Graph.{IsPath, Here, Along, IsAcyclic}
 use Rattle.finite_sums.specs.Members.{Among, Shuffled, none, put}

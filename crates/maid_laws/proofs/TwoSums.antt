@@ -1,4 +1,5 @@
--- The law of separation: given any fixed nodes, the tables from which an active walk leads to a utility and the others share no free node, so a sum over worlds is a product of two sums.
+-- The law of separation: given any fixed nodes, the tables from which an active walk leads to a
+-- utility and the others share no free node, so a sum over worlds is a product of two sums.
 use Rattle.std.proofs.Common.{◌≡◌, ◌⊎◌, ℕ, Bool, true, not, filter, List, refl, sym, subst, inl, inr, ℤ, ◌*ℤ◌}
 use Rattle.maid_model.specs.declared.diagrams.Kind.TheVariants.{Utility}
 use Rattle.maid_model.specs.Relevance.{IsLive}

@@ -82,7 +82,8 @@ module _ (Arc : ℕ → ℕ → Type 0) (Live Given : ℕ → Type 0) (new v goa
       goes_on More Lives Given goal more_one_way (more_arcs Arc More Live Lives Given Given goal (λ x y a. inl a) (λ x l. inl l) (λ x. ((λ k. k), (λ k. k))) h) (inl lv) in
       record { rest = v ∷ g.rest; active = g.entered new (inr refl) (inl (inr (refl, refl))) (inr (refl, refl)); ends = g.ends }
 
-  -- what a walk that came to x from p says: it passes the extra parent once more, or its steps go on from x
+  -- what a walk that came to x from p says: it passes the extra parent once more, or its steps go
+  -- on from x
   abbrev Rest : ℕ → ℕ → Type 0
   Rest p x = Leads Arc Live Given goal true v ⊎ ((x ≢ new) × (Live x) × (More p x → Leads Arc Live Given goal true x) × (More x p → Leads Arc Live Given goal false x))
 

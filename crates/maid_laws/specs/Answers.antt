@@ -15,7 +15,8 @@ use Rattle.maid_model.specs.Placing.{HasRelianceOrder}
 use Rattle.maid_model.specs.Values.{PrintsOptima}
 use Rattle.maid_laws.specs.Exchange.{IsBestInBases}
 
--- at each row of v in which its base has mass, no state has a greater gain against the base than the answered choice
+-- at each row of v in which its base has mass, no state has a greater gain against the base than
+-- the answered choice
 pub record HasBestChoices (d : DiagramView) (solved : SolvedView) (v : ℕ) : Type 0 where
   pub base : List RuleView
   pub is_base : IsBase d.nodes (answered d solved) v base
@@ -24,8 +25,8 @@ pub record HasBestChoices (d : DiagramView) (solved : SolvedView) (v : ℕ) : Ty
       → gain_at d.nodes base v state row
       ≤ℤ gain_at d.nodes base v (answer_at solved v row).choice row
 
--- Answered choices that are best against the bases, in any order in which each decision stands after those that it
--- relies on, make a profile that is best in its bases.
+-- Answered choices that are best against the bases, in any order in which each decision stands
+-- after those that it relies on, make a profile that is best in its bases.
 abbrev pub ChoicesAreBest : Type 0
 ChoicesAreBest = (d : DiagramView) (solved : SolvedView) → IsGraph d.nodes → HasChanceTables d.nodes
     → FitsDiagram d solved
@@ -60,7 +61,8 @@ abbrev pub AnswersAreAccepted : Type 0
 AnswersAreAccepted =
     (d : DiagramView) (solved : SolvedView) → IsAnswer d solved → IsAccepted d solved
 
--- A diagram has one answer at most: the order, the choices, the worths and the gains are all settled.
+-- A diagram has one answer at most: the order, the choices, the worths and the gains are all
+-- settled.
 abbrev pub OneAnswer : Type 0
 OneAnswer =
     (d : DiagramView) (one other : SolvedView) → IsGraph d.nodes → HasChanceTables d.nodes
@@ -71,8 +73,8 @@ abbrev pub AnswerExists : Type 0
 AnswerExists = (d : DiagramView) → IsGraph d.nodes → HasChanceTables d.nodes
     → HasRelianceOrder d.nodes → (solved : SolvedView) × IsAnswer d solved
 
--- Where a profile has mass in a row, so has the base of the decision in it, and what a state of a live decision is
--- worth against the base it is worth under the profile itself.
+-- Where a profile has mass in a row, so has the base of the decision in it, and what a state of a
+-- live decision is worth against the base it is worth under the profile itself.
 abbrev pub WorthInBase : Type 0
 WorthInBase = (nodes : List NodeView) (s base : List RuleView) (v state row scale : ℕ) (w : Ratio)
     → IsGraph nodes → HasChanceTables nodes → IsProfile nodes s → IsDecision nodes v
@@ -81,8 +83,8 @@ WorthInBase = (nodes : List NodeView) (s base : List RuleView) (v state row scal
     × (IsLive nodes v → IsWorthAt nodes scale base v state row w
     → IsWorthAt nodes scale s v state row w)
 
--- In a row of a live decision that the answered profile reaches, the row's worth is the expected utility below the
--- decision under that profile itself.
+-- In a row of a live decision that the answered profile reaches, the row's worth is the expected
+-- utility below the decision under that profile itself.
 abbrev pub WorthUnderTheProfile : Type 0
 WorthUnderTheProfile = (d : DiagramView) (solved : SolvedView) → IsGraph d.nodes
     → HasChanceTables d.nodes → IsAnswer d solved → KeepsWorth d solved

@@ -14,8 +14,8 @@ use Rattle.maid_model.specs.Subgames.{IsSubgamePerfect, IsOptimal, OwnsAll}
 abbrev pub weight_at : List NodeView → List RuleView → ℕ → ℕ → ℕ → ℕ
 weight_at nodes p d state row = slice_index (weights_of p d) (row * states_of nodes d + state)
 
--- in each row in which d's base in s has mass, no state has a greater gain against the base than the one to which s
--- gives the weight 1
+-- in each row in which d's base in s has mass, no state has a greater gain against the base than
+-- the one to which s gives the weight 1
 pub record IsBestInBase (nodes : List NodeView) (s : List RuleView) (d : ℕ) : Type 0 where
   pub base : List RuleView
   pub is_base : IsBase nodes s d base
@@ -24,9 +24,9 @@ pub record IsBestInBase (nodes : List NodeView) (s : List RuleView) (d : ℕ) : 
       → state < states_of nodes d
       → gain_at nodes base d state row ≤ℤ gain_at nodes base d choice row
 
--- A profile of rules of total 1, each best in its base, and a list of all decisions in which each stands after those
--- that it relies on. The answer of a diagram is one, and so are an accepted report and printed rules that still hold
--- at changed numbers.
+-- A profile of rules of total 1, each best in its base, and a list of all decisions in which each
+-- stands after those that it relies on. The answer of a diagram is one, and so are an accepted
+-- report and printed rules that still hold at changed numbers.
 pub record IsBestInBases (nodes : List NodeView) (s : List RuleView) : Type 0 where
   pub profile : IsProfile nodes s
   pub pure : (d : ℕ) → IsDecision nodes d → rule_total s d ≡ 1

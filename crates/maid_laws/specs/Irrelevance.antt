@@ -12,8 +12,9 @@ use Rattle.maid_model.specs.Relevance.{IsLive, ReliesOn}
 abbrev pub AgreeWhereRelied : List NodeView → ℕ → List RuleView → List RuleView → Type 0
 AgreeWhereRelied nodes d s t = (e : ℕ) → ReliesOn nodes d e → weights_of s e ≡ weights_of t e
 
--- Rules on which a decision does not rely don't matter to it: where two profiles agree at the decisions that d relies
--- on, the gains of d's states and the mass are in one proportion in each row, also where a mass is nought.
+-- Rules on which a decision does not rely don't matter to it: where two profiles agree at the
+-- decisions that d relies on, the gains of d's states and the mass are in one proportion in each
+-- row, also where a mass is nought.
 abbrev pub Irrelevance : Type 0
 Irrelevance = (nodes : List NodeView) (s t : List RuleView) (d state row : ℕ) → IsGraph nodes
     → HasChanceTables nodes → IsProfile nodes s → IsProfile nodes t → IsDecision nodes d
@@ -21,8 +22,8 @@ Irrelevance = (nodes : List NodeView) (s t : List RuleView) (d state row : ℕ) 
     → gain_at nodes s d state row *ℤ mass_at nodes t d row
     ≡ gain_at nodes t d state row *ℤ mass_at nodes s d row
 
--- the sum of the weights without d's rule, over the worlds in which d has this state and its parents have the states
--- of this row
+-- the sum of the weights without d's rule, over the worlds in which d has this state and its
+-- parents have the states of this row
 abbrev pub mass_at_state : List NodeView → List RuleView → ℕ → ℕ → ℕ → ℤ
 mass_at_state nodes p d state row =
     sum_worlds nodes (λ w. if is_at nodes d state row w then weight_without nodes p d w else pos 0)

@@ -5,8 +5,8 @@ use Rattle.maid_model.specs.Graph.{Arc, IsAcyclic, IsGraph}
 use Rattle.maid_model.specs.Laws.{IsParentsFirst}
 use Rattle.maid_model.specs.Subgames.{IsListing}
 
--- Where all parents are nodes of the list, there is no directed cycle exactly where the nodes can be listed with
--- parents first.
+-- Where all parents are nodes of the list, there is no directed cycle exactly where the nodes can
+-- be listed with parents first.
 abbrev pub AcyclicIffListed : Type 0
 AcyclicIffListed =
     (nodes : List NodeView) → ((u v : ℕ) → Arc nodes u v → u < length nodes)

@@ -32,8 +32,8 @@ HasWalk nodes fixed goal v =
 abbrev pub LooksAt : List NodeView → ℕ → ℕ → Type 0
 LooksAt nodes v x = (x ≡ v) ⊎ Arc nodes x v
 
--- Where the tables of two nodes look at one live node that is not fixed, an active walk leads from an extra parent of
--- both or of neither, as far as both matter.
+-- Where the tables of two nodes look at one live node that is not fixed, an active walk leads from
+-- an extra parent of both or of neither, as far as both matter.
 abbrev pub SharedNodeJoins : Type 0
 SharedNodeJoins = (nodes : List NodeView) (fixed : ℕ → Bool) (goal v y x : ℕ) → IsGraph nodes
     → IsUtility nodes goal → IsLive nodes v → Matters nodes fixed goal y → IsLive nodes x
@@ -47,7 +47,8 @@ pub record IsSplit
   pub joined_is :
       (v : ℕ) → Matters nodes fixed goal v → (joined v ≡ true) ↔ HasWalk nodes fixed goal v
 
--- Such tests cannot be lacking: what follows from them and can be told by a test, as an equation of numbers can, holds.
+-- Such tests cannot be lacking: what follows from them and can be told by a test, as an equation of
+-- numbers can, holds.
 abbrev pub SplitExists : Type 0
 SplitExists = (nodes : List NodeView) (fixed : ℕ → Bool) (goal : ℕ)
     → ((matters joined : ℕ → Bool) → IsSplit nodes fixed goal matters joined → ⊥) → ⊥
@@ -64,9 +65,10 @@ total_without nodes p d v = if v == d then states_of nodes v else weight_total n
 abbrev pub product_without : List NodeView → List RuleView → ℕ → List ℕ → World → ℤ
 product_without nodes p d vs w = product_over (λ v. table_without nodes p d v w) vs
 
--- The law of separation: given q's states at the fixed nodes, a sum over worlds of the weight without d's rule, times
--- a factor that looks at the goal's parents alone, is the product of the totals of the nodes that don't matter, of a
--- sum over the free nodes that have a walk, and of a sum over the other free nodes.
+-- The law of separation: given q's states at the fixed nodes, a sum over worlds of the weight
+-- without d's rule, times a factor that looks at the goal's parents alone, is the product of the
+-- totals of the nodes that don't matter, of a sum over the free nodes that have a walk, and of a
+-- sum over the other free nodes.
 abbrev pub SumsSeparate : Type 0
 SumsSeparate = (nodes : List NodeView) (p : List RuleView) (d : ℕ) (fixed : ℕ → Bool) (goal : ℕ)
     (matters joined : ℕ → Bool) (f : World → ℤ) (q : World) → IsGraph nodes

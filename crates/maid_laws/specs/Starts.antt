@@ -12,7 +12,8 @@ LaterSeeAll nodes order start = (i j : ℕ) → j < length start → length star
     → IsDecision nodes (slice_index order i) → IsLive nodes (slice_index order j)
     → Arc nodes (slice_index order j) (slice_index order i)
 
--- No later information set straddles a history exactly where each later decision sees each live node before.
+-- No later information set straddles a history exactly where each later decision sees each live
+-- node before.
 abbrev pub InformationKept : Type 0
 InformationKept = (nodes : List NodeView) (order start : List ℕ) → IsGraph nodes
     → IsListing nodes order → IsHistory nodes order start

@@ -9,8 +9,8 @@ use Rattle.maid_model.specs.Tables.{HasChanceTables, table, weight_total}
 use Rattle.maid_model.specs.Profiles.{IsProfile}
 use Rattle.maid_model.specs.Gains.{sum_worlds, weight, mass}
 
--- The law of totals: summed over any nodes, the product of their tables and rules is the product of their totals, and
--- a factor that looks at none of them comes out of the sum.
+-- The law of totals: summed over any nodes, the product of their tables and rules is the product of
+-- their totals, and a factor that looks at none of them comes out of the sum.
 abbrev pub LawOfTotals : Type 0
 LawOfTotals = (nodes : List NodeView) (p : List RuleView) (vs : List ℕ) (f : World → ℤ) (w : World)
     → IsGraph nodes → HasChanceTables nodes → IsProfile nodes p → AllDifferent vs
@@ -23,8 +23,8 @@ abbrev pub WeightsAddUp : Type 0
 WeightsAddUp = (nodes : List NodeView) (p : List RuleView) → IsGraph nodes → HasChanceTables nodes
     → IsProfile nodes p → sum_worlds nodes (weight nodes p) ≡ pos (mass nodes p)
 
--- The law of products: a sum over two lists of nodes of two factors, neither of which looks at the other's list, is a
--- product of two sums.
+-- The law of products: a sum over two lists of nodes of two factors, neither of which looks at the
+-- other's list, is a product of two sums.
 abbrev pub LawOfProducts : Type 0
 LawOfProducts =
     (count : ℕ → ℕ) (us vs : List ℕ) (f g : World → ℤ) (w : World)

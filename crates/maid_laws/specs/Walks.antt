@@ -13,7 +13,8 @@ WalksTurn = (nodes : List NodeView) (fixed : ℕ → Bool) (x y : ℕ)
     → IsReached (Arc nodes) (IsLive nodes) (IsFixedBy fixed) x y
     → IsReached (Arc nodes) (IsLive nodes) (IsFixedBy fixed) y x
 
--- Where no fixed node descends from d, an active walk leads from an extra parent of each child of d that matters.
+-- Where no fixed node descends from d, an active walk leads from an extra parent of each child of d
+-- that matters.
 abbrev pub ChildrenJoin : Type 0
 ChildrenJoin = (nodes : List NodeView) (fixed : ℕ → Bool) (goal d v : ℕ) → IsGraph nodes
     → IsUtility nodes goal → ((x : ℕ) → Descends (Arc nodes) d x → fixed x ≡ false) → Arc nodes d v

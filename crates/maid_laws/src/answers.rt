@@ -2,8 +2,8 @@
 
 ghost use Rattle.maid_laws.specs.Answers.{ChoicesAreBest, AnswersAreBest, AnswersAreSubgamePerfect, AnswersAreOptimal, AnswersAreAccepted, GainsAreOptima, OneAnswer, AnswerExists, WorthInBase, WorthUnderTheProfile};
 
-/// Answered choices that are best against the bases make a profile that is best in its bases: so does an answer, an
-/// accepted report, and a report whose choices still hold at changed numbers.
+/// Answered choices that are best against the bases make a profile that is best in its bases: so
+/// does an answer, an accepted report, and a report whose choices still hold at changed numbers.
 pub fn answers_are_best()
     ensures choices { ChoicesAreBest }
     ensures answers { AnswersAreBest }
@@ -35,8 +35,8 @@ pub fn one_answer()
     ensures one { OneAnswer }
 {}
 
-/// A row of a live decision that a profile reaches is worth under the profile itself what it is worth against the base,
-/// and so is a row of an answer.
+/// A row of a live decision that a profile reaches is worth under the profile itself what it is
+/// worth against the base, and so is a row of an answer.
 pub fn worth_under_the_profile()
     ensures base { WorthInBase }
     ensures answer { WorthUnderTheProfile }

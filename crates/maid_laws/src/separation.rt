@@ -8,14 +8,15 @@ pub fn walks_turn()
     ensures law { WalksTurn }
 {}
 
-/// Given any fixed nodes, active walks tell the tables that hang together with a utility from those that don't.
+/// Given any fixed nodes, active walks tell the tables that hang together with a utility from those
+/// that don't.
 pub fn separated_tables()
     ensures shared { SharedNodeJoins }
     ensures children { ChildrenJoin }
 {}
 
-/// Given any fixed nodes, a sum over worlds is a product of a sum over the tables that hang together with a utility
-/// and of one over the others.
+/// Given any fixed nodes, a sum over worlds is a product of a sum over the tables that hang
+/// together with a utility and of one over the others.
 pub fn separated_sums()
     ensures tests { SplitExists }
     ensures sums { SumsSeparate }

@@ -3,7 +3,8 @@
 ghost use Rattle.maid_laws.specs.Exchange.{Exchange, OneAgent};
 ghost use Rattle.maid_laws.specs.Starts.{InformationKept, NoRelianceBack};
 
-/// At a subgame start each later decision sees each live node before it, and relies on no decision before it.
+/// At a subgame start each later decision sees each live node before it, and relies on no decision
+/// before it.
 pub fn later_decisions()
     ensures sees { InformationKept }
     ensures relies { NoRelianceBack }

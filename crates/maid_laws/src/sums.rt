@@ -8,8 +8,8 @@ pub fn law_of_totals()
     ensures weights { WeightsAddUp }
 {}
 
-/// A sum over two lists of nodes of two factors that look at one list each is a product of two sums, and nodes may be
-/// summed in any order.
+/// A sum over two lists of nodes of two factors that look at one list each is a product of two
+/// sums, and nodes may be summed in any order.
 pub fn law_of_products()
     ensures products { LawOfProducts }
     ensures order { SumsInAnyOrder }

@@ -1,4 +1,5 @@
--- The nodes below one node, those to which a path leads from it but for the node itself; and the goals of a decision.
+-- The nodes below one node, those to which a path leads from it but for the node itself; and the
+-- goals of a decision.
 use Rattle.std.proofs.Common.{◌≡◌, ◌↔◌, ℕ, ◌<◌, Bool, true, false, ◌&&◌, List, length, refl, sym, subst}
 use Rattle.std.proofs.lemmas.Bool.{false≢true}
 use Rattle.node_sets.specs.declared.sets.NodeSet.{NodeSet}

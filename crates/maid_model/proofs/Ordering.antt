@@ -1,4 +1,5 @@
--- A graph has a list of its nodes with parents first: the nodes by how many others they descend from.
+-- A graph has a list of its nodes with parents first: the nodes by how many others they descend
+-- from.
 use Rattle.std.proofs.Common.{◌≡◌, ◌≢◌, ◌∙◌, ◌⊎◌, ℕ, zero, suc, ◌+◌, ◌<◌, ◌≤◌, true, false, List, [], ◌∷◌, ◌++◌, length, get_or, take, refl, sym, ap, subst, inl, inr, arith, Contains}
 use Rattle.std.proofs.Math.Decide.{dec_lt}
 use Rattle.std.specs.List.{range_with_len}

@@ -1,4 +1,5 @@
--- What a node is, by its kind, and who owns it, by looking at the first owner and then at the others.
+-- What a node is, by its kind, and who owns it, by looking at the first owner and then at the
+-- others.
 use Rattle.std.proofs.Common.{◌≡◌, ◌↔◌, ◌⊎◌, ◌==◌, ℕ, zero, suc, ◌<◌, Bool, true, false, ◌&&◌, List, ◌∷◌, length, get_or, Contains, IsTrue, refl, sym, ◌∙◌, ap, subst, inl, inr, arith}
 use Rattle.std.proofs.lemmas.Bool.{false≢true}
 use Rattle.std.proofs.lemmas.List.{get_or_default}

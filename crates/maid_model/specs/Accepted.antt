@@ -1,5 +1,5 @@
--- A finished report that is accepted: the order is one of solving, each row is best against its base and worth what
--- it says, and so is each agent's gain.
+-- A finished report that is accepted: the order is one of solving, each row is best against its
+-- base and worth what it says, and so is each agent's gain.
 use Rattle.std.specs.Prelude.{◌≡◌, ℕ, ◌<◌, List, length, take, Contains, slice_index, slice_index_or, pos, ◌≤ℤ◌, ◌<ℤ◌, None}
 use Rattle.maid_model.specs.declared.answers.Row.{Row}
 use Rattle.maid_model.specs.Views.{NodeView, DiagramView, RuleView, SolvedView}
@@ -13,8 +13,8 @@ abbrev pub IsReliedFirst : List NodeView → List ℕ → Type 0
 IsReliedFirst nodes order = (i e : ℕ) → i < length order → ReliesOn nodes (slice_index order i) e
     → Contains (take i order) e
 
--- A row with mass against the base isn't marked as never reached, no state has a greater gain than its choice, and it
--- is worth its gain over the mass. A row without mass is marked.
+-- A row with mass against the base isn't marked as never reached, no state has a greater gain than
+-- its choice, and it is worth its gain over the mass. A row without mass is marked.
 pub record IsAcceptedRow
     (nodes : List NodeView) (decimals : ℕ) (base : List RuleView) (d row : ℕ) (r : Row) : Type 0
   where

@@ -1,4 +1,5 @@
--- The answer: the base of each decision, the best states against it, and what the plan is worth to each agent.
+-- The answer: the base of each decision, the best states against it, and what the plan is worth to
+-- each agent.
 use Rattle.std.specs.Prelude.{◌≡◌, ℕ, ◌<◌, ◌*◌, ◌^◌, List, [], ◌∷◌, map, length, All, Contains, slice_index_or, ℤ, pos, ◌*ℤ◌, ◌≤ℤ◌, ◌<ℤ◌, ◌==◌, if◌then◌else◌, nat_abs, unsigned_abs, Some, None, IfSome, Result, IfOk}
 use Rattle.std.specs.Int.{IsGcd}
 use Rattle.maid_model.specs.declared.answers.Ratio.{Ratio}
@@ -21,8 +22,8 @@ pub record IsFraction (r : Ratio) (num : ℤ) (den : ℕ) : Type 0 where
   pub reduced : IsReduced r
   pub same : r.num *ℤ pos den ≡ num *ℤ pos r.den
 
--- what a state of d is worth in a row against the profile: the state's gain over the row's mass, where utilities are
--- whole numbers of one part in `scale`
+-- what a state of d is worth in a row against the profile: the state's gain over the row's mass,
+-- where utilities are whole numbers of one part in `scale`
 abbrev pub IsWorthAt : List NodeView → ℕ → List RuleView → ℕ → ℕ → ℕ → Ratio → Type 0
 IsWorthAt nodes scale p d state row w =
     IsFraction w (gain_at nodes p d state row) (nat_abs (mass_at nodes p d row) * scale)
@@ -32,8 +33,8 @@ abbrev pub HasWorth : List NodeView → ℕ → List RuleView → ℕ → ℕ �
 HasWorth nodes decimals p d row r =
     (w : Ratio) × (r.worth ≡ Some w) × IsWorthAt nodes (10 ^ decimals) p d r.choice row w
 
--- the agent's expected utility under the profile: its gain over the mass, where utilities are whole numbers of one
--- part in `scale`
+-- the agent's expected utility under the profile: its gain over the mass, where utilities are whole
+-- numbers of one part in `scale`
 abbrev pub IsExpectedUtility : List NodeView → ℕ → List RuleView → ℕ → Ratio → Type 0
 IsExpectedUtility nodes scale p agent r =
     IsFraction r (gain_of nodes p agent) (mass nodes p * scale)
@@ -68,14 +69,16 @@ answered d solved = pure_profile d.nodes solved.answers
 abbrev pub answer_at : SolvedView → ℕ → ℕ → Row
 answer_at solved v row = slice_index_or (rows_at solved.answers v) row no_row
 
--- In a row of a live decision that the answered profile reaches, the printed worth is that against the profile itself.
+-- In a row of a live decision that the answered profile reaches, the printed worth is that against
+-- the profile itself.
 abbrev pub KeepsWorth : DiagramView → SolvedView → Type 0
 KeepsWorth d solved =
     (v row : ℕ) → IsDecision d.nodes v → IsLive d.nodes v → row < rows_of d.nodes v
     → pos 0 <ℤ mass_at d.nodes (answered d solved) v row
     → HasWorth d.nodes d.decimals (answered d solved) v row (answer_at solved v row)
 
--- The base of d in s: the rules of s at the decisions that d relies on, and uniform rules at all others.
+-- The base of d in s: the rules of s at the decisions that d relies on, and uniform rules at all
+-- others.
 pub record IsBase
     (nodes : List NodeView) (s : List RuleView) (d : ℕ) (base : List RuleView) : Type 0 where
   pub profile : IsProfile nodes base
@@ -89,8 +92,8 @@ pub record IsFirstBest (gain : ℕ → ℤ) (states choice : ℕ) : Type 0 where
   pub greatest : (s : ℕ) → s < states → gain s ≤ℤ gain choice
   pub first : (s : ℕ) → s < choice → gain s <ℤ gain choice
 
--- A row with mass takes the first best state against the base and is worth its gain over the mass. A row without mass
--- takes the first state and is marked as never reached, which is None.
+-- A row with mass takes the first best state against the base and is worth its gain over the mass.
+-- A row without mass takes the first state and is marked as never reached, which is None.
 pub record IsAnswerRow
     (nodes : List NodeView) (decimals : ℕ) (base : List RuleView) (d row : ℕ) (r : Row) : Type 0
   where
@@ -113,7 +116,8 @@ pub record IsGains (d : DiagramView) (s : List RuleView) (gains : List Ratio) : 
   pub each : (agent : ℕ) (r : Ratio) → agent < d.agents
       → IsExpectedUtility d.nodes (10 ^ d.decimals) s agent (slice_index_or gains agent r)
 
--- an answer of a decision, with a row for each choice of its parents' states, choices in range and reduced fractions
+-- an answer of a decision, with a row for each choice of its parents' states, choices in range and
+-- reduced fractions
 pub record FitsAnswer (nodes : List NodeView) (answer : AnswerView) : Type 0 where
   pub decision : IsDecision nodes answer.decision
   pub rows : length answer.rows ≡ rows_of nodes answer.decision
@@ -124,13 +128,15 @@ pub record FitsAnswer (nodes : List NodeView) (answer : AnswerView) : Type 0 whe
 abbrev pub HasNoWorths : AnswerView → Type 0
 HasNoWorths answer = All (λ (r : Row). r.worth ≡ None) answer.rows
 
--- answers in text order, with a choice in range for each choice of the parents' states, and without worths
+-- answers in text order, with a choice in range for each choice of the parents' states, and without
+-- worths
 pub record AreChoices (nodes : List NodeView) (answers : List AnswerView) : Type 0 where
   pub follow : map (λ (a : AnswerView). a.decision) answers ≡ decisions_of nodes
   pub fits : All (FitsAnswer nodes) answers
   pub worthless : All HasNoWorths answers
 
--- it is so where there is a row for each choice of the decision's parents' states, with choices in range
+-- it is so where there is a row for each choice of the decision's parents' states, with choices in
+-- range
 abbrev pub WhereRowsFit : List NodeView → ℕ → List Row → Type 0 → Type 0
 WhereRowsFit nodes v rows So =
     length rows ≡ rows_of nodes v → All (λ r. r.choice < states_of nodes v) rows → So
@@ -150,8 +156,8 @@ abbrev pub GivesProfile :
     {E : Type 0} → List NodeView → List AnswerView → Result (List RuleView) E → Type 0
 GivesProfile nodes answers result = FitsAnswers nodes answers → IfOk result (IsProfile nodes)
 
--- A value that a report can show: answers in the order given, each decision once, and a reduced fraction for each
--- agent.
+-- A value that a report can show: answers in the order given, each decision once, and a reduced
+-- fraction for each agent.
 pub record FitsDiagram (d : DiagramView) (solved : SolvedView) : Type 0 where
   pub follow : map (λ a. a.decision) solved.answers ≡ solved.order
   pub answers : All (FitsAnswer d.nodes) solved.answers
@@ -160,8 +166,8 @@ pub record FitsDiagram (d : DiagramView) (solved : SolvedView) : Type 0 where
   pub gains : length solved.gains ≡ d.agents
   pub reduced : All IsReduced solved.gains
 
--- The answer of a diagram: decisions in the order of solving, each row best against the decision's base in the
--- answered rules, and each agent's expected utility under them.
+-- The answer of a diagram: decisions in the order of solving, each row best against the decision's
+-- base in the answered rules, and each agent's expected utility under them.
 pub record IsAnswer (d : DiagramView) (solved : SolvedView) : Type 0 where
   pub fits : FitsDiagram d solved
   pub order : IsRelianceOrder d.nodes solved.order

@@ -37,8 +37,8 @@ HasRoomForBase d p decision = HasRoomForWeight d (base_mass d.nodes p decision)
 abbrev pub KeepsBound : DiagramView → Type 0
 KeepsBound d = HasRoomForWeight d (bound_product d.nodes)
 
--- how many worlds there are: the product of the state counts of all chance nodes and decisions, since a utility has
--- one state
+-- how many worlds there are: the product of the state counts of all chance nodes and decisions,
+-- since a utility has one state
 abbrev pub world_count : List NodeView → ℕ
 world_count nodes = nat_product_over (states_of nodes) (numbers_of nodes)
 

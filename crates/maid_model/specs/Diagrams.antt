@@ -1,4 +1,5 @@
--- What makes a list of nodes an influence diagram of several agents, within the limits of the program.
+-- What makes a list of nodes an influence diagram of several agents, within the limits of the
+-- program.
 use Rattle.std.specs.Prelude.{◌≡◌, ◌≢◌, ◌<◌, ◌≤◌, ◌*◌, ℕ, List, [], length, All, nat_abs}
 use Rattle.node_sets.specs.declared.sets.TheConstants.{MOST_NODES}
 use Rattle.maid_model.specs.declared.limits.TheConstants.{MOST_STATES, MOST_PARENTS, MOST_CELLS, MOST_RULE_CELLS, MOST_AGENTS, MOST_DECIMALS, GREATEST_NUMBER}
@@ -13,8 +14,8 @@ use Rattle.maid_model.specs.Tables.{HasChanceTables, chance_total}
 abbrev pub greatest_number : ℕ
 greatest_number = GREATEST_NUMBER
 
--- whose node it is: a decision has one of the agents, a utility one or more, each once, a chance node none, which is
--- written 0
+-- whose node it is: a decision has one of the agents, a utility one or more, each once, a chance
+-- node none, which is written 0
 pub record HasOwners (nodes : List NodeView) (agents : ℕ) : Type 0 where
   pub agent :
       (v a : ℕ) → v < length nodes → (node_at nodes v).kind ≢ Chance → Owns nodes a v → a < agents
@@ -28,8 +29,8 @@ pub record HasValues (nodes : List NodeView) : Type 0 where
       → length (node_at nodes v).cells ≡ rows_of nodes v
   pub decision : (v : ℕ) → (node_at nodes v).kind ≡ Decision → (node_at nodes v).cells ≡ []
 
--- the limits on nodes, states, parents, cells of one table or rule, cells of all rules, totals, values, agents and
--- decimals
+-- the limits on nodes, states, parents, cells of one table or rule, cells of all rules, totals,
+-- values, agents and decimals
 pub record KeepsLimits (d : DiagramView) : Type 0 where
   pub nodes : length d.nodes ≤ MOST_NODES
   pub states : (v : ℕ) → states_of d.nodes v ≤ MOST_STATES

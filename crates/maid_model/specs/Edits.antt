@@ -1,4 +1,5 @@
--- Edited diagrams: an arc more or less, a chance node under an agent's control, decisions of others as chance nodes.
+-- Edited diagrams: an arc more or less, a chance node under an agent's control, decisions of others
+-- as chance nodes.
 use Rattle.std.specs.Prelude.{◌≡◌, ℕ, List, [], ◌∷◌, ◌++◌, map, filter, ◌==◌, not, pos, if◌then◌else◌, slice_set}
 use Rattle.maid_model.specs.declared.diagrams.Kind.{Kind}
 use Rattle.maid_model.specs.declared.diagrams.Kind.TheVariants.{Chance, Decision, Utility}
@@ -77,8 +78,8 @@ fixed_by Decision nodes agent answers v =
 fixed_by Chance nodes agent answers v = node_at nodes v
 fixed_by Utility nodes agent answers v = node_at nodes v
 
--- the diagram in which only the agent decides: the other agents' decisions are chance nodes that take the answered
--- choices
+-- the diagram in which only the agent decides: the other agents' decisions are chance nodes that
+-- take the answered choices
 abbrev pub one_agent : List NodeView → ℕ → List AnswerView → List NodeView
 one_agent nodes agent answers =
     map (λ v. fixed_by (node_at nodes v).kind nodes agent answers v) (numbers_of nodes)

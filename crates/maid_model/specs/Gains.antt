@@ -1,4 +1,5 @@
--- The weight of a world, and the sums over worlds: expected utilities, and what a decision's states are worth in a row.
+-- The weight of a world, and the sums over worlds: expected utilities, and what a decision's states
+-- are worth in a row.
 use Rattle.std.specs.Prelude.{◌≡◌, ℕ, ◌+◌, ◌*◌, ◌<◌, ◌≤◌, Bool, ◌&&◌, List, [], ◌∷◌, length, slice_index, slice_index_or, ℤ, pos, ◌*ℤ◌, ◌==◌, if◌then◌else◌, nat_abs, max}
 use Rattle.maid_model.specs.Views.{NodeView, RuleView}
 use Rattle.maid_model.specs.Nodes.{agent_of, node_at, states_of, rows_of, numbers_of, is_utility, is_utility_of}
@@ -49,7 +50,8 @@ table_without nodes p d v w = if v == d then pos 1 else table nodes p v w
 abbrev pub weight_without : List NodeView → List RuleView → ℕ → World → ℤ
 weight_without nodes p d w = product_over (λ v. table_without nodes p d v w) (numbers_of nodes)
 
--- the cell that the world picks in v, if v is a utility of the decision's agent that descends from the decision
+-- the cell that the world picks in v, if v is a utility of the decision's agent that descends from
+-- the decision
 abbrev pub value_below : List NodeView → ℕ → ℕ → World → ℤ
 value_below nodes d v w =
     if descends nodes d v then value_for nodes (agent_of nodes d) v w else pos 0
@@ -62,8 +64,8 @@ utility_below nodes d w = sum_each (λ v. value_below nodes d v w) (numbers_of n
 abbrev pub is_at : List NodeView → ℕ → ℕ → ℕ → World → Bool
 is_at nodes d state row w = (w d == state) && (row_of nodes d w == row)
 
--- G: the sum, over the worlds in which d has this state and its parents have the states of this row, of the weight
--- without d's rule times the utilities below d
+-- G: the sum, over the worlds in which d has this state and its parents have the states of this
+-- row, of the weight without d's rule times the utilities below d
 abbrev pub gain_at : List NodeView → List RuleView → ℕ → ℕ → ℕ → ℤ
 gain_at nodes p d state row = sum_worlds nodes (λ w.
     if is_at nodes d state row w
@@ -104,6 +106,7 @@ greatest_utility nodes = nat_sum_over
 abbrev pub base_total : List NodeView → List RuleView → ℕ → ℕ → ℕ
 base_total nodes p d v = if v == d then states_of nodes d else weight_total nodes p v
 
--- the product of all tables' and rules' totals, with the count of d's states in the place of its rule's total
+-- the product of all tables' and rules' totals, with the count of d's states in the place of its
+-- rule's total
 abbrev pub base_mass : List NodeView → List RuleView → ℕ → ℕ
 base_mass nodes p d = nat_product_over (base_total nodes p d) (numbers_of nodes)

@@ -15,8 +15,9 @@ abbrev pub AllDifferent : List ℕ → Type 0
 AllDifferent [] = Unit {0}
 AllDifferent (x ∷ xs) = (Contains xs x → ⊥) × AllDifferent xs
 
--- The nodes of a diagram, tables aside: their parents are nodes of the list, differ and are no utilities; a utility
--- has one state and every other node one or more; and there is no directed cycle.
+-- The nodes of a diagram, tables aside: their parents are nodes of the list, differ and are no
+-- utilities; a utility has one state and every other node one or more; and there is no directed
+-- cycle.
 pub record IsGraph (nodes : List NodeView) : Type 0 where
   pub parents_known : (u v : ℕ) → Arc nodes u v → u < length nodes
   pub parents_differ : (v : ℕ) → AllDifferent (parents_of nodes v)
@@ -31,6 +32,7 @@ leads_within nodes zero u v = false
 leads_within nodes (suc n) u v =
     list_any (λ x. (x == u) || leads_within nodes n u x) (parents_of nodes v)
 
--- v descends from u, as a test: in a graph without a cycle no path has more arcs than there are nodes
+-- v descends from u, as a test: in a graph without a cycle no path has more arcs than there are
+-- nodes
 abbrev pub descends : List NodeView → ℕ → ℕ → Bool
 descends nodes u v = leads_within nodes (length nodes) u v

@@ -5,7 +5,8 @@ use Rattle.maid_model.specs.declared.diagrams.Kind.TheVariants.{Utility}
 use Rattle.maid_model.specs.Views.{DiagramView}
 use Rattle.maid_model.specs.Nodes.{node_at, states_of}
 
--- a name for each node, a label for each state of each node (none for a utility), and a name for each agent
+-- a name for each node, a label for each state of each node (none for a utility), and a name for
+-- each agent
 pub record NamesView : Type 0 where
   pub nodes : List (List ℕ)
   pub labels : List (List (List ℕ))

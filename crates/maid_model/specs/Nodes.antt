@@ -1,4 +1,5 @@
--- Looking up nodes. Each look-up has an answer for every number, so that no sum over nodes carries a premise.
+-- Looking up nodes. Each look-up has an answer for every number, so that no sum over nodes carries
+-- a premise.
 use Rattle.std.specs.Prelude.{◌≡◌, ◌⊎◌, ℕ, ◌<◌, ◌*◌, Bool, true, false, ◌&&◌, ◌==◌, List, [], ◌∷◌, map, length, filter, Contains, slice_index_or}
 use Rattle.std.specs.List.{list_any, range_with_len}
 use Rattle.maid_model.specs.declared.diagrams.Kind.{Kind}

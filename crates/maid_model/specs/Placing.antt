@@ -26,7 +26,8 @@ pub record IsOrder (Item : ℕ → Type 0) (Needs : ℕ → ℕ → Type 0) (ord
   pub placing : IsPlacing Item Needs order
   pub complete : (v : ℕ) → Item v → Contains order v
 
--- from the first that is left, each time to the first that is left of those that the last one needs; none comes twice
+-- from the first that is left, each time to the first that is left of those that the last one
+-- needs; none comes twice
 pub record IsTrail (Left : ℕ → Type 0) (Needs : ℕ → ℕ → Type 0) (trail : List ℕ) : Type 0 where
   pub first : 0 < length trail → IsLeast Left (slice_index trail 0)
   pub next : (k : ℕ) → k + 1 < length trail
@@ -44,14 +45,16 @@ pub record IsRound (Left : ℕ → Type 0) (Needs : ℕ → ℕ → Type 0) (cyc
       (slice_index trail back)
   pub is : cycle ≡ drop back trail
 
--- items are placed as long as one can be, some remain, and a round among those that remain is the cycle
+-- items are placed as long as one can be, some remain, and a round among those that remain is the
+-- cycle
 pub record IsCycle (Item : ℕ → Type 0) (Needs : ℕ → ℕ → Type 0) (cycle : List ℕ) : Type 0 where
   pub placed : List ℕ
   pub placing : IsPlacing Item Needs placed
   pub stuck : (v : ℕ) → CanPlace Item Needs placed v → ⊥
   pub round : IsRound (Remains Item placed) Needs cycle
 
--- The order of solving: each time the first decision in text, all of whose relied-on decisions are placed.
+-- The order of solving: each time the first decision in text, all of whose relied-on decisions are
+-- placed.
 abbrev pub IsRelianceOrder : List NodeView → List ℕ → Type 0
 IsRelianceOrder nodes order = IsOrder (IsDecision nodes) (ReliesOn nodes) order
 

@@ -20,7 +20,8 @@ use Rattle.maid_model.specs.Worlds.{world_of}
 abbrev pub HasLiveStates : NodeView → Type 0
 HasLiveStates node = (node.kind ≡ Utility) ⊎ (1 < node.states)
 
--- what is kept of these nodes: each node's parents and children, the live nodes, the utilities, the counts of states
+-- what is kept of these nodes: each node's parents and children, the live nodes, the utilities, the
+-- counts of states
 pub record IsIndexOf (nodes : List NodeView) (index : NodeIndex) : Type 0 where
   pub parents : (u v : ℕ) → HasParent index.arcs u v ↔ Arc nodes u v
   pub children : (u v : ℕ) → HasChild index.arcs u v ↔ Arc nodes u v

@@ -1,5 +1,5 @@
--- Which decisions a decision relies on (Koller and Milch 2003, s-reachability), and which of its parents it needs
--- (Lauritzen and Nilsson 2001).
+-- Which decisions a decision relies on (Koller and Milch 2003, s-reachability), and which of its
+-- parents it needs (Lauritzen and Nilsson 2001).
 use Rattle.std.specs.Prelude.{◌≡◌, ◌≢◌, ◌⊎◌, ℕ, ◌<◌, List, length}
 use Rattle.maid_model.specs.declared.diagrams.Kind.TheVariants.{Utility}
 use Rattle.maid_model.specs.Views.{NodeView}
@@ -23,8 +23,8 @@ pub record IsGoal (nodes : List NodeView) (d u : ℕ) : Type 0 where
   pub owner : Owns nodes (agent_of nodes d) u
   pub below : Descends (Arc nodes) d u
 
--- d relies on e: both are decisions of two states or more, and given d and its parents an active walk leads from an
--- extra parent of e to a goal of d
+-- d relies on e: both are decisions of two states or more, and given d and its parents an active
+-- walk leads from an extra parent of e to a goal of d
 pub record ReliesOn (nodes : List NodeView) (d e : ℕ) : Type 0 where
   pub apart : d ≢ e
   pub from_decision : IsDecision nodes d
@@ -40,8 +40,8 @@ pub record ReliesOn (nodes : List NodeView) (d e : ℕ) : Type 0 where
 abbrev pub IsInFamilyBut : (ℕ → ℕ → Type 0) → ℕ → ℕ → ℕ → Type 0
 IsInFamilyBut Arc d x y = (y ≡ d) ⊎ (Arc y d × (y ≢ x))
 
--- the parent x of d is requisite: it is live, and given d and its other parents an active walk leads from x to a goal
--- of d
+-- the parent x of d is requisite: it is live, and given d and its other parents an active walk
+-- leads from x to a goal of d
 pub record IsRequisite (nodes : List NodeView) (d x : ℕ) : Type 0 where
   pub live : IsLive nodes x
   pub goal : ℕ

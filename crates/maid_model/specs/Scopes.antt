@@ -22,12 +22,13 @@ goals_of nodes d =
 abbrev pub utilities_for : List NodeView → ℕ → List ℕ
 utilities_for nodes agent = filter (is_utility_of nodes agent) (numbers_of nodes)
 
--- the scope of a decision: the nodes from which a path of nought or more arcs leads to it, or to a utility of its
--- agent that descends from it
+-- the scope of a decision: the nodes from which a path of nought or more arcs leads to it, or to a
+-- utility of its agent that descends from it
 abbrev pub scope_of : List NodeView → ℕ → List ℕ
 scope_of nodes d = with_ancestors nodes (d ∷ goals_of nodes d)
 
--- the scope of an agent: the nodes from which a path of nought or more arcs leads to a utility of the agent
+-- the scope of an agent: the nodes from which a path of nought or more arcs leads to a utility of
+-- the agent
 abbrev pub scope_for : List NodeView → ℕ → List ℕ
 scope_for nodes agent = with_ancestors nodes (utilities_for nodes agent)
 
@@ -51,11 +52,13 @@ scope_part_for nodes agent = part_of nodes (scope_for nodes agent)
 abbrev pub rules_in_scope_for : List NodeView → List RuleView → ℕ → List RuleView
 rules_in_scope_for nodes p agent = rules_in nodes p (scope_for nodes agent)
 
--- P of a decision: the product of its scope's chance totals and of the state counts of its scope's decisions
+-- P of a decision: the product of its scope's chance totals and of the state counts of its scope's
+-- decisions
 abbrev pub scope_product : List NodeView → ℕ → ℕ
 scope_product nodes d = nat_product_over (bound_factor nodes) (scope_of nodes d)
 
--- how a node of that kind counts in the P of an agent: a chance node by its total, others not at all
+-- how a node of that kind counts in the P of an agent: a chance node by its total, others not at
+-- all
 abbrev pub chance_factor_by : Kind → ℕ → ℕ
 chance_factor_by Chance total = total
 chance_factor_by Decision total = 1
@@ -73,7 +76,8 @@ scope_product_for nodes agent = nat_product_over (chance_factor nodes) (scope_fo
 abbrev pub greatest_of : List NodeView → List ℕ → ℕ
 greatest_of nodes us = nat_sum_over (λ u. greatest_abs (node_at nodes u).cells) us
 
--- a path of nought or more arcs leads from v to d, or to a utility of d's agent that descends from d
+-- a path of nought or more arcs leads from v to d, or to a utility of d's agent that descends from
+-- d
 pub record IsInScope (nodes : List NodeView) (d v : ℕ) : Type 0 where
   pub target : ℕ
   pub is_target : (target ≡ d) ⊎ IsGoal nodes d target
@@ -98,7 +102,8 @@ pub record KeepsScopedBounds (d : DiagramView) : Type 0 where
 abbrev pub product_before : (ℕ → ℕ) → List ℕ → ℕ → ℕ
 product_before factor scope n = nat_product_over factor (filter (λ v. ltb v n) scope)
 
--- v is the first node of the scope in the text at which the product over the scope's nodes up to it passes
+-- v is the first node of the scope in the text at which the product over the scope's nodes up to it
+-- passes
 pub record PassesInScope (factor : ℕ → ℕ) (scope : List ℕ) (v : ℕ) : Type 0 where
   pub listed : Contains scope v
   pub passes : greatest_number < product_before factor scope (v + 1)

@@ -1,4 +1,5 @@
--- Histories on the tree that draws all branches, subgame starts, and profiles from which no agent gains in any subgame.
+-- Histories on the tree that draws all branches, subgame starts, and profiles from which no agent
+-- gains in any subgame.
 use Rattle.std.specs.Prelude.{◌≡◌, ◌≢◌, ℕ, ◌<◌, ◌≤◌, Bool, true, ◌&&◌, List, [], ◌∷◌, length, take, drop, Contains, slice_index, ℤ, pos, ◌*ℤ◌, ◌≤ℤ◌, ◌<ℤ◌, ◌==◌, if◌then◌else◌}
 use Rattle.maid_model.specs.declared.diagrams.Kind.TheVariants.{Chance, Utility}
 use Rattle.maid_model.specs.Views.{NodeView, RuleView}
@@ -40,8 +41,8 @@ world_of_history [] (x ∷ history) v = 0
 world_of_history (u ∷ order) (x ∷ history) v =
     if u == v then x else world_of_history order history v
 
--- the gain from a history: the sum, over the worlds that extend it, of the product of the weights of the later nodes
--- times the agent's utilities
+-- the gain from a history: the sum, over the worlds that extend it, of the product of the weights
+-- of the later nodes times the agent's utilities
 abbrev pub gain_from : List NodeView → List ℕ → List ℕ → List RuleView → ℕ → ℤ
 gain_from nodes order history p agent = sum_worlds nodes (λ w.
     if agrees order history w
@@ -65,8 +66,8 @@ abbrev pub AgreeOnParents : List NodeView → List ℕ → ℕ → List ℕ → 
 AgreeOnParents nodes order d g h =
     (i : ℕ) → i < length g → Arc nodes (slice_index order i) d → slice_index g i ≡ slice_index h i
 
--- for each decision at the history's end or later, and each information set of it, all of its histories extend this
--- one or none does
+-- for each decision at the history's end or later, and each information set of it, all of its
+-- histories extend this one or none does
 abbrev pub KeepsInformation : List NodeView → List ℕ → List ℕ → Type 0
 KeepsInformation nodes order start = (i : ℕ) (g h : List ℕ) → length start ≤ i → i < length order
     → IsDecision nodes (slice_index order i) → IsHistory nodes order g → IsHistory nodes order h
@@ -84,15 +85,17 @@ abbrev pub DiffersOnlyFor : List NodeView → ℕ → List RuleView → List Rul
 DiffersOnlyFor nodes agent s t =
     (v : ℕ) → IsDecision nodes v → agent_of nodes v ≢ agent → SameRule t s v
 
--- from the start the profile t is worth no more to the agent than s: fractions are compared by cross products
+-- from the start the profile t is worth no more to the agent than s: fractions are compared by
+-- cross products
 abbrev pub IsNoBetterFrom :
     List NodeView → List ℕ → List ℕ → ℕ → List RuleView → List RuleView → Type 0
 IsNoBetterFrom nodes order start agent s t = (gain_from nodes order start t agent
     *ℤ pos (mass_from nodes order start s))
     ≤ℤ (gain_from nodes order start s agent *ℤ pos (mass_from nodes order start t))
 
--- A profile such that for every list with parents first, every subgame start, every agent and every profile that
--- differs in that agent's rules alone, the other profile is worth no more to the agent from the start.
+-- A profile such that for every list with parents first, every subgame start, every agent and every
+-- profile that differs in that agent's rules alone, the other profile is worth no more to the agent
+-- from the start.
 pub record IsSubgamePerfect (nodes : List NodeView) (s : List RuleView) : Type 0 where
   pub profile : IsProfile nodes s
   pub from_each_start : (order start : List ℕ) → IsListing nodes order

@@ -1,4 +1,5 @@
--- The tables of nodes and the rules of decisions: which cell a world picks, and what a row adds up to.
+-- The tables of nodes and the rules of decisions: which cell a world picks, and what a row adds up
+-- to.
 use Rattle.std.specs.Prelude.{◌≡◌, ℕ, ◌+◌, ◌*◌, ◌<◌, ◌≤ℤ◌, List, [], ◌∷◌, length, slice_index, slice_index_or, ℤ, pos, nat_abs, ◌==◌, if◌then◌else◌}
 use Rattle.maid_model.specs.declared.diagrams.Kind.{Kind}
 use Rattle.maid_model.specs.declared.diagrams.Kind.TheVariants.{Chance, Decision, Utility}
@@ -6,7 +7,8 @@ use Rattle.maid_model.specs.Views.{NodeView, RuleView}
 use Rattle.maid_model.specs.Nodes.{node_at, states_of, parents_of, rows_of}
 use Rattle.finite_sums.specs.Sums.{World, sum_below}
 
--- the row that the world gives to these parents, the first parent slowest; `row` stands for those before them
+-- the row that the world gives to these parents, the first parent slowest; `row` stands for those
+-- before them
 abbrev pub row_from : (ℕ → ℕ) → World → ℕ → List ℕ → ℕ
 row_from count w row [] = row
 row_from count w row (u ∷ us) = row_from count w (row * count u + w u) us
@@ -15,7 +17,8 @@ row_from count w row (u ∷ us) = row_from count w (row * count u + w u) us
 abbrev pub row_of : List NodeView → ℕ → World → ℕ
 row_of nodes v w = row_from (states_of nodes) w 0 (parents_of nodes v)
 
--- the place of the cell that the world picks in a table with a column for each state, v's own state fastest
+-- the place of the cell that the world picks in a table with a column for each state, v's own state
+-- fastest
 abbrev pub cell_of : List NodeView → ℕ → World → ℕ
 cell_of nodes v w = row_of nodes v w * states_of nodes v + w v
 

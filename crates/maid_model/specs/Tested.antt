@@ -1,5 +1,5 @@
--- Tests for a small diagram, written as a literal, and for its rules. That what passes is a diagram, a rule or a
--- profile is a law (`Laws`).
+-- Tests for a small diagram, written as a literal, and for its rules. That what passes is a
+-- diagram, a rule or a profile is a law (`Laws`).
 use Rattle.std.specs.Prelude.{ℕ, ◌+◌, ◌*◌, Bool, true, false, ◌&&◌, not, eqb, ltb, leb, List, [], ◌∷◌, map, length, slice_index_or, ℤ, pos, negsuc, nat_abs}
 use Rattle.std.specs.List.{list_all, range_with_len}
 use Rattle.node_sets.specs.declared.sets.TheConstants.{MOST_NODES}
@@ -61,8 +61,8 @@ kind_tests Utility d v =
     ∷ differ (owners_of d.nodes v)
     ∷ []
 
--- the parents stand before the node, are no utilities and differ; there is a state; states, parents and cells are not
--- too many; and what its kind asks for
+-- the parents stand before the node, are no utilities and differ; there is a state; states, parents
+-- and cells are not too many; and what its kind asks for
 abbrev pub node_tests : DiagramView → ℕ → List Bool
 node_tests d v =
     list_all (λ u. ltb u v) (parents_of d.nodes v)

@@ -9,8 +9,8 @@ use Rattle.maid_model.specs.Answers.{IsReduced, IsExpectedUtility}
 use Rattle.maid_model.specs.Subgames.{OwnsAll, IsOptimal}
 use Rattle.maid_model.specs.Edits.{without_arc, with_arc, as_decision, one_agent}
 
--- where the agent owns all decisions: the fraction that is its expected utility under some profile, and that no
--- profile's exceeds
+-- where the agent owns all decisions: the fraction that is its expected utility under some profile,
+-- and that no profile's exceeds
 pub record IsOptimum (nodes : List NodeView) (decimals agent : ℕ) (r : Ratio) : Type 0 where
   pub alone : OwnsAll nodes agent
   pub best : List RuleView
@@ -43,8 +43,8 @@ pub record IsDecisionOf (nodes : List NodeView) (d agent : ℕ) : Type 0 where
   pub decision : IsDecision nodes d
   pub owner : agent_of nodes d ≡ agent
 
--- Information value of an arc that is there, from x into a decision d of the agent: in the diagram in which only the
--- agent decides, the optimum with the arc less the optimum without it.
+-- Information value of an arc that is there, from x into a decision d of the agent: in the diagram
+-- in which only the agent decides, the optimum with the arc less the optimum without it.
 pub record IsValueOfSeen
     (nodes : List NodeView) (decimals : ℕ) (answers : List AnswerView) (agent x d : ℕ) (r : Ratio) :
     Type 0 where
@@ -53,7 +53,8 @@ pub record IsValueOfSeen
   pub value : IsDifferenceOfOptima (one_agent nodes agent answers)
       (without_arc (one_agent nodes agent answers) x d) decimals agent r
 
--- Information value of an arc that is not there and can be added: the diagram with the arc less the one without it.
+-- Information value of an arc that is not there and can be added: the diagram with the arc less the
+-- one without it.
 pub record IsValueOfUnseen
     (nodes : List NodeView) (decimals : ℕ) (answers : List AnswerView) (agent x d : ℕ) (r : Ratio) :
     Type 0 where
@@ -63,8 +64,8 @@ pub record IsValueOfUnseen
   pub value : IsDifferenceOfOptima (with_arc (one_agent nodes agent answers) x d)
       (one_agent nodes agent answers) decimals agent r
 
--- Control value: the optimum where the chance node x is a decision of the agent over its own parents, less the
--- optimum before.
+-- Control value: the optimum where the chance node x is a decision of the agent over its own
+-- parents, less the optimum before.
 pub record IsValueOfControl
     (nodes : List NodeView) (decimals : ℕ) (answers : List AnswerView) (agent x : ℕ) (r : Ratio) :
     Type 0 where

@@ -4,8 +4,8 @@ use Rattle.maid_model.specs.declared.diagrams.Kind.{Kind}
 use Rattle.maid_model.specs.declared.answers.Row.{Row}
 use Rattle.maid_model.specs.declared.answers.Ratio.{Ratio}
 
--- a node's kind, the number of its first owner, its further owners in written order, the count of its states, its
--- parents in order and its table
+-- a node's kind, the number of its first owner, its further owners in written order, the count of
+-- its states, its parents in order and its table
 pub record NodeView : Type 0 where
   pub kind : Kind
   pub owner : ℕ
@@ -14,7 +14,8 @@ pub record NodeView : Type 0 where
   pub parents : List ℕ
   pub cells : List ℤ
 
--- the nodes by number, how many agents there are, and the power of ten by which utilities are scaled
+-- the nodes by number, how many agents there are, and the power of ten by which utilities are
+-- scaled
 pub record DiagramView : Type 0 where
   pub nodes : List NodeView
   pub agents : ℕ
@@ -25,7 +26,8 @@ abbrev pub diagram_of : List NodeView → ℕ → ℕ → DiagramView
 diagram_of nodes agents decimals =
     record { nodes = nodes; agents = agents; decimals = decimals }
 
--- a decision's rule: for each row of its parents' states one weight a state, and what each row adds up to
+-- a decision's rule: for each row of its parents' states one weight a state, and what each row adds
+-- up to
 pub record RuleView : Type 0 where
   pub decision : ℕ
   pub total : ℕ

@@ -9,8 +9,8 @@ IsJoined Arc x y = Arc x y ⊎ Arc y x
 abbrev pub IsCollider : (ℕ → ℕ → Type 0) → ℕ → ℕ → ℕ → Type 0
 IsCollider Arc x y z = Arc x y × Arc z y
 
--- a list of one or more live nodes, each joined to the next; an inner node is given exactly where both arrows meet
--- head to head at it
+-- a list of one or more live nodes, each joined to the next; an inner node is given exactly where
+-- both arrows meet head to head at it
 abbrev pub IsActive : (ℕ → ℕ → Type 0) → (ℕ → Type 0) → (ℕ → Type 0) → List ℕ → Type 0
 IsActive Arc Live Given [] = ⊥
 IsActive Arc Live Given (x ∷ []) = Live x
@@ -37,8 +37,8 @@ WithArc Arc new v x y = Arc x y ⊎ ((x ≡ new) × (y ≡ v))
 abbrev pub WithNode : (ℕ → Type 0) → ℕ → ℕ → Type 0
 WithNode Live new x = Live x ⊎ (x ≡ new)
 
--- an active walk leads to a node from an extra parent of v: a new live node whose only arc goes to v. `new` is a
--- number that no node has
+-- an active walk leads to a node from an extra parent of v: a new live node whose only arc goes to
+-- v. `new` is a number that no node has
 abbrev pub IsReachedFromParent : (ℕ → ℕ → Type 0) → (ℕ → Type 0) → (ℕ → Type 0) → ℕ → ℕ → ℕ → Type 0
 IsReachedFromParent Arc Live Given new v to =
     IsReached (WithArc Arc new v) (WithNode Live new) Given new to

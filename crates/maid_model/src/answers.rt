@@ -26,15 +26,16 @@ impl Ratio {
     }
 }
 
-/// What is answered in one row of a decision: the chosen state, counted from 0, and what it is worth, or `None` where
-/// the row is marked as never reached.
+/// What is answered in one row of a decision: the chosen state, counted from 0, and what it is
+/// worth, or `None` where the row is marked as never reached.
 #[derive(Clone, Copy, Debug, PartialEq, Eq)]
 pub struct Row {
     pub choice: usize,
     pub worth: Option<Ratio>,
 }
 
-/// What is answered at a decision: one row for each choice of its parents' states, the first parent slowest.
+/// What is answered at a decision: one row for each choice of its parents' states, the first parent
+/// slowest.
 #[derive(Debug, Drop)]
 pub struct Answer {
     pub decision: usize,
@@ -49,8 +50,8 @@ impl Model for Answer {
     ghost view = { λ a. record { decision = a.decision; rows = a.rows.items } };
 }
 
-/// An answered diagram: the decisions in the order of solving, an answer for each in that order, and each agent's
-/// expected utility under the answered rules.
+/// An answered diagram: the decisions in the order of solving, an answer for each in that order,
+/// and each agent's expected utility under the answered rules.
 #[derive(Debug, Drop)]
 pub struct Solved {
     pub order: Vec<usize>,

@@ -27,9 +27,10 @@ pub enum Kind {
     Utility,
 }
 
-/// A node of a diagram. Its cells stand with the first parent slowest, and a chance node's own state fastest. A
-/// chance node has owner 0, a utility one state, and a decision no cells. Where several agents share a utility, `more`
-/// has the owners after the first in written order; it is empty at every other node.
+/// A node of a diagram. Its cells stand with the first parent slowest, and a chance node's own
+/// state fastest. A chance node has owner 0, a utility one state, and a decision no cells. Where
+/// several agents share a utility, `more` has the owners after the first in written order; it is
+/// empty at every other node.
 #[derive(Debug, Drop)]
 pub struct Node {
     pub kind: Kind,
@@ -56,8 +57,8 @@ impl Model for Node {
         } };
 }
 
-/// An influence diagram. Its nodes are numbered from 0 in text order, its agents from 0 in order of first sight, and
-/// its utilities are scaled by ten to the power of `decimals`.
+/// An influence diagram. Its nodes are numbered from 0 in text order, its agents from 0 in order of
+/// first sight, and its utilities are scaled by ten to the power of `decimals`.
 #[derive(Debug, Drop)]
 pub struct Diagram {
     nodes: Vec<Node>,
@@ -80,8 +81,8 @@ impl Model for Diagram {
 }
 
 impl Diagram {
-    /// The diagram of these nodes. It goes over all arcs once, and takes memory for the sets and counts that it keeps of
-    /// them, as much whatever the nodes are.
+    /// The diagram of these nodes. It goes over all arcs once, and takes memory for the sets and
+    /// counts that it keeps of them, as much whatever the nodes are.
     ///
     /// # Errors
     ///
@@ -112,8 +113,8 @@ impl Diagram {
         self.nodes
     }
 
-    /// Puts the node in the place of one that is like it, and gives that one back. Their parents may differ. It takes no
-    /// memory, and looks at the parents of the two and at no other node.
+    /// Puts the node in the place of one that is like it, and gives that one back. Their parents
+    /// may differ. It takes no memory, and looks at the parents of the two and at no other node.
     pub fn exchange(&mut self, v: usize, node: Node) -> Node
         requires within { v < length self.old.nodes }
         requires alike { AreAlike (node_at self.old.nodes v) node }
@@ -125,8 +126,8 @@ impl Diagram {
         mem::replace(&mut self.nodes[v], node)
     }
 
-    /// How many nodes there are. Who must know that what it holds is a diagram calls it for that clause alone:
-    /// `let _count = diagram.count();`.
+    /// How many nodes there are. Who must know that what it holds is a diagram calls it for that
+    /// clause alone: `let _count = diagram.count();`.
     pub fn count(&self) -> usize
         ensures count { result ≡ length self.now.nodes }
         ensures diagram { IsDiagram self.now }
@@ -259,7 +260,8 @@ impl Diagram {
         10u128.pow(self.decimals())
     }
 
-    /// Whether the node is a decision of the agent, or a utility that the agent owns, alone or with others.
+    /// Whether the node is a decision of the agent, or a utility that the agent owns, alone or with
+    /// others.
     pub fn owns(&self, agent: usize, node: usize) -> bool
         requires { node < length self.now.nodes }
         ensures { IsTrue result ↔ IsOwnedBy self.now.nodes node agent }

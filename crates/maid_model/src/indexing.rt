@@ -1,5 +1,5 @@
-//! What a diagram keeps of its nodes: sets that searches along arcs ask again and again, and the counts of states that
-//! sums do.
+//! What a diagram keeps of its nodes: sets that searches along arcs ask again and again, and the
+//! counts of states that sums do.
 
 ghost use Rattle.std.specs.Prelude.{◌≡◌, ℕ, ◌<◌, ◌≤◌, ◌↔◌, Contains, length, slice_set, take, IsTrue};
 ghost use Rattle.node_sets.specs.declared.sets.TheConstants.{MOST_NODES};
@@ -40,8 +40,8 @@ impl NodeIndex {
         }
     }
 
-    /// Keeps what it does of these nodes with that one in the place of one that is like it. Where the parents differ, it goes
-    /// over those of both.
+    /// Keeps what it does of these nodes with that one in the place of one that is like it. Where
+    /// the parents differ, it goes over those of both.
     pub(crate) fn exchange(&mut self, nodes: &[Node], v: usize, node: &Node)
         requires index { IsIndexOf nodes.now self.old }
         requires few { length nodes.now ≤ MOST_NODES }

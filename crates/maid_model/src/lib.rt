@@ -1,5 +1,5 @@
-//! Influence diagrams of several agents: their nodes, rules, worlds and sums over worlds. The definitions that the
-//! whole repository believes stand in `specs/`, one file a subject.
+//! Influence diagrams of several agents: their nodes, rules, worlds and sums over worlds. The
+//! definitions that the whole repository believes stand in `specs/`, one file a subject.
 #![tactic(auto)]
 
 mod answers;

@@ -1,4 +1,5 @@
-//! The limits of the program, each once: code and definitions cite these, and `node_sets` has the most nodes.
+//! The limits of the program, each once: code and definitions cite these, and `node_sets` has the
+//! most nodes.
 
 /// The most states of a node.
 pub const MOST_STATES: usize = 256;
@@ -21,10 +22,12 @@ pub const MOST_DECIMALS: u32 = 30;
 /// The most bytes of a name, a label or an agent.
 pub const MOST_NAME_BYTES: usize = 255;
 
-/// The greatest absolute value of a weight total, of a scaled utility and of the weight bound: 2^126 - 1.
+/// The greatest absolute value of a weight total, of a scaled utility and of the weight bound:
+/// 2^126 - 1.
 pub const GREATEST_NUMBER: u128 = (1 << 126) - 1;
 
-/// The most leaves, worlds of a whole diagram, up to which a report is checked or an equilibrium is searched: 2^20.
+/// The most leaves, worlds of a whole diagram, up to which a report is checked or an equilibrium is
+/// searched: 2^20.
 pub const MOST_LEAVES: u128 = 1_048_576;
 
 /// The most pure profiles among which an equilibrium is searched.

@@ -5,7 +5,8 @@ ghost use Rattle.maid_model.specs.Names.{IsFirstPlace, agent_name, label_of, lab
 
 use std::marker::Model;
 
-/// The names of a diagram's nodes, a list of labels for each node, and the names of its agents, all as bytes.
+/// The names of a diagram's nodes, a list of labels for each node, and the names of its agents, all
+/// as bytes.
 #[derive(Debug, Drop)]
 pub struct Names {
     nodes: Vec<Vec<u8>>,
@@ -71,7 +72,8 @@ impl Names {
         self.agents[agent].as_slice()
     }
 
-    /// The number of the agent of that name, the first where several have it. It compares the name with each.
+    /// The number of the agent of that name, the first where several have it. It compares the name
+    /// with each.
     pub fn find_agent(&self, name: &[u8]) -> Option<usize>
         ensures some { IfSome result (IsFirstPlace self.now.agents name.now) }
         ensures none { IfNone result (¬ Contains self.now.agents name.now) }

@@ -10,8 +10,8 @@ use crate::diagrams::{Diagram, Kind};
 use std::alloc::{AllocError, Global};
 use std::marker::Model;
 
-/// A decision's rule: for each row of its parents' states one weight a state, the first parent slowest and the
-/// decision's own state fastest. Each row adds up to `total`.
+/// A decision's rule: for each row of its parents' states one weight a state, the first parent
+/// slowest and the decision's own state fastest. Each row adds up to `total`.
 #[derive(Debug, Drop)]
 pub struct Rule {
     pub decision: usize,

@@ -41,7 +41,8 @@ impl Rule {
     ) -> Result<Rule, AllocError>
         requires { decision < length diagram.now.nodes }
         ensures choices { IfOk result (TakesChoices diagram.now.nodes decision rows.now) }
-        // It is a rule of the decision where there is a choice in range for each row of the parents' states.
+        // It is a rule of the decision where there is a choice in range for each row of the
+        // parents' states.
         ensures rule { GivesRule diagram.now.nodes decision rows.now result }
     {
         let states = diagram.states(decision);

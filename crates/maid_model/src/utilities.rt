@@ -32,7 +32,8 @@ impl Diagram {
         self.utilities_among(agent, self.utilities())
     }
 
-    /// Those of the nodes that are utilities of the agent. It takes no memory, and looks at each utility once.
+    /// Those of the nodes that are utilities of the agent. It takes no memory, and looks at each
+    /// utility once.
     pub fn utilities_among(&self, agent: usize, nodes: &NodeSet) -> NodeSet
         ensures { (v : ℕ) → IsIn result v
             ↔ (IsIn nodes.now v × IsUtilityOf self.now.nodes agent v) }

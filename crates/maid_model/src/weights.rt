@@ -13,7 +13,8 @@ use crate::profiles::Profile;
 use crate::worlds::World;
 use node_sets::MOST_NODES;
 
-/// At which place of the profile each decision's rule stands, so that no sum over worlds has to search for it.
+/// At which place of the profile each decision's rule stands, so that no sum over worlds has to
+/// search for it.
 pub(crate) fn rule_places(diagram: &Diagram, profile: &Profile) -> [usize; MOST_NODES]
     requires { IsProfile diagram.now.nodes profile.now }
     ensures { HasPlaces diagram.now.nodes profile.now result }
@@ -27,8 +28,8 @@ pub(crate) fn rule_places(diagram: &Diagram, profile: &Profile) -> [usize; MOST_
     places
 }
 
-/// The node's factor in the weight of a world: the chance cell or rule weight that the world picks, and 1 at a utility
-/// and at the decision that is left out.
+/// The node's factor in the weight of a world: the chance cell or rule weight that the world picks,
+/// and 1 at a utility and at the decision that is left out.
 fn factor(
     diagram: &Diagram,
     profile: &Profile,

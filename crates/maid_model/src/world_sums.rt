@@ -16,9 +16,9 @@ use crate::weights::{rule_places, world_weight};
 use crate::worlds::World;
 use node_sets::NodeSet;
 
-/// The sum, over all worlds, of the world's weight under the profile times the agent's utilities. It goes through all
-/// worlds, and in each through all arcs. The world comes as the first and is the first again in the end. It takes no
-/// memory.
+/// The sum, over all worlds, of the world's weight under the profile times the agent's utilities.
+/// It goes through all worlds, and in each through all arcs. The world comes as the first and is
+/// the first again in the end. It takes no memory.
 pub fn leaf_sum(diagram: &Diagram, profile: &Profile, agent: usize, world: &mut World) -> i128
     requires profile { IsProfile diagram.now.nodes profile.now }
     requires first { world.old ≡ first_world (length diagram.now.nodes) }
@@ -40,9 +40,10 @@ pub fn leaf_sum(diagram: &Diagram, profile: &Profile, agent: usize, world: &mut 
     }
 }
 
-/// The two sums of the decision against the profile as its base: in `gains` the gain of each state in each row, row by
-/// row and the state fastest, and in `masses` the mass of each row at the first state. It goes through all worlds, and
-/// in each through all arcs. The world comes as the first and is the first again in the end. It takes no memory.
+/// The two sums of the decision against the profile as its base: in `gains` the gain of each state
+/// in each row, row by row and the state fastest, and in `masses` the mass of each row at the first
+/// state. It goes through all worlds, and in each through all arcs. The world comes as the first
+/// and is the first again in the end. It takes no memory.
 pub fn base_sums(
     diagram: &Diagram,
     profile: &Profile,

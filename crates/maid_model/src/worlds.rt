@@ -46,7 +46,8 @@ impl World {
         row
     }
 
-    /// The place of the cell that this world picks in a table with a column for each of the node's states.
+    /// The place of the cell that this world picks in a table with a column for each of the node's
+    /// states.
     pub fn cell(&self, diagram: &Diagram, v: usize) -> usize
         requires node { v < length diagram.now.nodes }
         requires world { IsWorld (counts_of diagram.now.nodes) self.now }
@@ -56,8 +57,8 @@ impl World {
         self.row(diagram, v) * diagram.states(v) + self.states[v]
     }
 
-    /// Goes on to the next world in list order, the last node fastest. `false` where this was the last one, and then
-    /// it is the first again. It takes no memory.
+    /// Goes on to the next world in list order, the last node fastest. `false` where this was the
+    /// last one, and then it is the first again. It takes no memory.
     pub fn next(&mut self, diagram: &Diagram) -> bool
         requires { IsWorld (counts_of diagram.now.nodes) self.old }
         ensures world { IsWorld (counts_of diagram.now.nodes) self.new }

@@ -1,4 +1,5 @@
--- A text's tree has a fault or none: it can be told of each row of the table whether it applies, the graph has a cycle or none, and the utilities have a scale.
+-- A text's tree has a fault or none: it can be told of each row of the table whether it applies,
+-- the graph has a cycle or none, and the utilities have a scale.
 use Rattle.std.proofs.Common.{◌≡◌, ◌⊎◌, ◌<◌, ◌≤◌, ◌+◌, ◌-◌, ◌*◌, ◌^◌, ℕ, zero, suc, ℤ, pos, ◌*ℤ◌, Bool, true, false, cond, inl, inr, List, [], ◌∷◌, length, map, All, Option, None, Some, refl, sym, subst, arith}
 use Rattle.std.specs.Prelude.{slice_index, nat_abs, unsigned_abs}
 use Rattle.std.specs.Int.{◌∣◌}

@@ -1,4 +1,5 @@
--- The scale of the utilities' numbers, found in the drafts: they are the numbers that the drafts hold.
+-- The scale of the utilities' numbers, found in the drafts: they are the numbers that the drafts
+-- hold.
 use Rattle.std.proofs.Common.{◌≡◌, ◌⊎◌, inl, inr, ◌<◌, ◌≤◌, ◌+◌, ℕ, List, [], All, Contains, length, get_or, map, None, refl, sym, subst, ◌∙◌, arith}
 use Rattle.std.specs.Option.{option_map_or}
 use Rattle.std.proofs.lemmas.List.{get_or_default, length-map}

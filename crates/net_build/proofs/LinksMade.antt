@@ -1,4 +1,5 @@
--- Where the passes over potentials, the graph and the sizes find nothing, the parents make a graph within the limits.
+-- Where the passes over potentials, the graph and the sizes find nothing, the parents make a graph
+-- within the limits.
 use Rattle.std.proofs.Common.{◌≡◌, ◌+◌, ◌<◌, ◌≤◌, ℕ, zero, suc, Bool, true, false, cond, List, [], All, length, get_or, map, take, Option, None, Some, refl, sym, subst, ◌∙◌, arith}
 use Rattle.std.proofs.lemmas.List.{length-map}
 use Rattle.std.proofs.lemmas.List.Elements.{All-map}

@@ -71,7 +71,8 @@ none_twice text ts h = after_all (repeated_agent_row text) (λ earlier. AllPairs
     (all_pairs_push (λ name later. name ≢ later) (map (text_value text) earlier) (text_value text t) apart (λ k d within same. new (k, within, get_or_default (map (text_value text) earlier) k (text_value text t) d within ∙ same))))
     [] ts (λ i j d lt within. absurd (omega arith)) h
 
--- the owners of a decision or a utility: of a label's form, each once, and one alone unless several may share the node
+-- the owners of a decision or a utility: of a label's form, each once, and one alone unless several
+-- may share the node
 pub record HasOwnerNames (kind : BlockKind) (names : List (List ℕ)) : Type 0 where
   pub some : 0 < length names
   pub plain : All (λ name. is_label name ≡ true) names

@@ -1,4 +1,5 @@
--- A tree stands for one diagram: names, kinds, owners, states and parents are those of the blocks, and each table is the only one.
+-- A tree stands for one diagram: names, kinds, owners, states and parents are those of the blocks,
+-- and each table is the only one.
 use Rattle.std.proofs.Common.{◌≡◌, ◌<◌, ℕ, ℤ, List, [], ◌∷◌, map, length, get_or, drop, refl, sym, ap, subst, ◌∙◌}
 use Rattle.std.proofs.lemmas.List.{ext_get_or}
 use Rattle.maid_model.specs.declared.diagrams.Kind.{Kind}

@@ -1,4 +1,5 @@
--- A pass finds nothing or a fault, never both, and one fault at most: each row does, and so do rows in turn.
+-- A pass finds nothing or a fault, never both, and one fault at most: each row does, and so do rows
+-- in turn.
 use Rattle.std.proofs.Common.{◌≡◌, ℕ, inl, inr, List, [], ◌∷◌, Option, None, Some, sym, ◌∙◌, ap, arith}
 use Rattle.std.specs.Prelude.{slice_index, All}
 use Rattle.std.proofs.lemmas.Bool.{cases_lt}

@@ -1,4 +1,5 @@
--- What a `?` hands on where memory ran out: it says nothing of the text, so that it passes whatever rows.
+-- What a `?` hands on where memory ran out: it says nothing of the text, so that it passes whatever
+-- rows.
 use Rattle.std.proofs.Common.{◌≡◌, Result}
 use Rattle.std.specs.Result.{IsErr, IsErrAnd}
 use Rattle.first_fault.specs.Passes.{Pass}

@@ -194,7 +194,8 @@ module _ (text : List ℕ) (blocks : List BlockTree) (own : All (IsBlockOf text)
       let here = subst (λ o. AreUtilityCells d.decimals (map (token_bytes text) (option_map_or (λ q. leaves_of (data_of text q)) o [])) (node_at d.nodes v).cells) found table in
       cells_whole w (leaves_of (data_of text p)) (node_at d.nodes v).cells here (enough v its))
 
-  -- the least decimals of all utilities are the scale, and the reduced rows are those of the scaling
+  -- the least decimals of all utilities are the scale, and the reduced rows are those of the
+  -- scaling
   pub stands_plain : IsDiagram d → IsPlain d
   stands_plain diagram = record {
     weights = λ v kind.

@@ -1,4 +1,5 @@
--- A reduced row that is multiplied has the multiplier for its greatest divisor, so that reduced again it is what it was.
+-- A reduced row that is multiplied has the multiplier for its greatest divisor, so that reduced
+-- again it is what it was.
 use Rattle.std.proofs.Common.{◌≡◌, ◌<◌, ◌≤◌, ◌+◌, ◌*◌, ◌/◌, ◌%◌, ◌==◌, ◌⊎◌, inl, inr, ℕ, zero, suc, Bool, true, false, List, [], ◌∷◌, All, get_or, map, sum, refl, sym, ap, subst, ◌∙◌, arith}
 use Rattle.std.specs.Prelude.{if◌then◌else◌}
 use Rattle.std.specs.Int.{◌∣◌}
@@ -71,7 +72,8 @@ none_divides g x e d = sym (sym (mod-eq-zero_of_dvd g d) ∙ rest_by_none g x e)
   rest_by_none g x e = omega (arith, e)
 
 -- ---- the multiplier
--- A reduced row has no common divisor but 1: what divides each of its numbers, multiplied, divides the multiplier.
+-- A reduced row has no common divisor but 1: what divides each of its numbers, multiplied, divides
+-- the multiplier.
 pub multiplier_divided : (row reduced : List ℕ) (k m : ℕ) → IsReducedRow row reduced → 0 < sum reduced → All (λ x. m ∣ x * k) reduced → m ∣ k
 multiplier_divided row reduced k m is some all = by_divisor (zero_or_more is.divisor) where
   by_divisor : (is.divisor ≡ 0) ⊎ (0 < is.divisor) → m ∣ k

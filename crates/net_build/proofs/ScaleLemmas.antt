@@ -1,4 +1,5 @@
--- A numeral's value times a power of ten, by its decimal: when it is whole, and when it is too great.
+-- A numeral's value times a power of ten, by its decimal: when it is whole, and when it is too
+-- great.
 use Rattle.std.proofs.Common.{◌≡◌, ◌⊎◌, inl, inr, ◌<◌, ◌≤◌, ◌+◌, ◌-◌, ◌*◌, ◌^◌, ℕ, suc, ℤ, pos, ◌*ℤ◌, unsigned_abs, Bool, true, false, cond, List, [], All, length, get_or, map, refl, sym, ap, subst, ◌∙◌, arith, Option, None, Some}
 use Rattle.std.proofs.Math.Nat.{pow-le-pow_right, mul-pos, mul-le-mul_left, mul-le-mul_right}
 use Rattle.std.proofs.lemmas.Int.{ints, unsigned_abs-mul}

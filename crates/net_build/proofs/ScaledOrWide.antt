@@ -1,4 +1,5 @@
--- A numeral that is not too long has a decimal, and the rows of a table whose numbers and totals the rows before allow are scaled or too wide.
+-- A numeral that is not too long has a decimal, and the rows of a table whose numbers and totals
+-- the rows before allow are scaled or too wide.
 use Rattle.std.proofs.Common.{◌≡◌, ◌⊎◌, inl, inr, ◌<◌, ◌*◌, ◌/◌, ℕ, zero, suc, ℤ, pos, negsuc, ◌≤ℤ◌, ◌<ℤ◌, List, [], ◌∷◌, All, length, get_or, map, sum, None, refl, sym, subst, ◌∙◌, arith}
 use Rattle.std.specs.Int.{◌∣◌}
 use Rattle.std.proofs.Math.Nat.{div-zero, dvd-mul_left}

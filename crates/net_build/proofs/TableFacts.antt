@@ -1,4 +1,5 @@
--- Nodes and their potentials where the passes before the tables find nothing: what reading the tables needs, and which numbers are the utilities'.
+-- Nodes and their potentials where the passes before the tables find nothing: what reading the
+-- tables needs, and which numbers are the utilities'.
 use Rattle.std.proofs.Common.{◌≡◌, ◌≢◌, ◌⊎◌, inl, inr, ◌<◌, ◌≤◌, ◌+◌, ℕ, Bool, true, false, not, cond, List, [], ◌∷◌, ◌++◌, All, Contains, length, get_or, map, filter, take, Option, None, Some, IfSome, refl, sym, ap, subst, ◌∙◌, arith, length-append}
 use Rattle.std.specs.List.{flat_map}
 use Rattle.std.specs.Option.{IsSome}

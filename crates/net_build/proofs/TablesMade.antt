@@ -1,4 +1,5 @@
--- Where the passes find nothing, each node has a table: a chance node its rows in proportion, and a utility its values to scale.
+-- Where the passes find nothing, each node has a table: a chance node its rows in proportion, and a
+-- utility its values to scale.
 use Rattle.std.proofs.Common.{◌≡◌, ◌⊎◌, inl, inr, ◌<◌, ◌≤◌, ◌*◌, ℕ, zero, suc, ℤ, true, List, [], ◌∷◌, All, length, get_or, map, Option, None, Some, refl, sym, ap, subst, ◌∙◌, arith}
 use Rattle.std.specs.Option.{IsSome, option_map_or}
 use Rattle.std.proofs.lemmas.Bool.{false≢true, cases_lt}

@@ -1,4 +1,5 @@
--- Which conditions of rows can be told: that words stand in a list, that something holds of all items, and the like.
+-- Which conditions of rows can be told: that words stand in a list, that something holds of all
+-- items, and the like.
 use Rattle.std.proofs.Common.{◌≡◌, ◌⊎◌, inl, inr, ℕ, Bool, true, false, List, [], ◌∷◌, All, Contains, Option, None, Some, refl, sym, arith}
 use Rattle.std.proofs.lemmas.Bool.{false≢true}
 use Rattle.std.proofs.lemmas.List.Elements.{All-nil, All-cons, All-head, All-tail}

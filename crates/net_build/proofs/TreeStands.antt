@@ -1,4 +1,5 @@
--- A tree in which the passes find nothing stands for the diagram that is made of its nodes, its links and its tables.
+-- A tree in which the passes find nothing stands for the diagram that is made of its nodes, its
+-- links and its tables.
 use Rattle.std.proofs.Common.{ℕ, List, All, None}
 use Rattle.net_parser.specs.Owned.{IsBlockOf}
 use Rattle.net_parser.specs.Trees.{BlockTree}

@@ -1,5 +1,5 @@
--- Looking up what the blocks of a text say. Each look-up has an answer for every tree; it is the one that is meant
--- where the passes before it find nothing.
+-- Looking up what the blocks of a text say. Each look-up has an answer for every tree; it is the
+-- one that is meant where the passes before it find nothing.
 use Rattle.std.specs.Prelude.{◌≡◌, ◌*◌, ℕ, Bool, true, false, ◌&&◌, ◌||◌, List, [], ◌∷◌, Option, MatchOption, map, filter, find, length, drop, nat_le, bytes_eq, codes, slice_index_or, if◌then◌else◌}
 use Rattle.std.specs.Borrow.{Bor}
 use Rattle.std.specs.List.{flat_map, list_all, position_or_len, list_any}
@@ -89,7 +89,8 @@ abbrev pub may_share : BlockKind → Bool
 may_share Utility = true
 may_share kind = false
 
--- the name of an attribute that tells the owners of such a node: `agent`, and for a utility `agents` too
+-- the name of an attribute that tells the owners of such a node: `agent`, and for a utility
+-- `agents` too
 abbrev pub names_owners : BlockKind → List ℕ → Bool
 names_owners kind word = (has_agent kind && bytes_eq word (codes "agent"))
     || (may_share kind && bytes_eq word (codes "agents"))
@@ -201,7 +202,8 @@ abbrev pub texts_or_agent : List ℕ → List Token → List (List ℕ)
 texts_or_agent text [] = codes "agent" ∷ []
 texts_or_agent text (token ∷ tokens) = map (text_value text) (token ∷ tokens)
 
--- the owners of a decision or a utility in written order: the strings that tell them, and "agent" where none does
+-- the owners of a decision or a utility in written order: the strings that tell them, and "agent"
+-- where none does
 abbrev pub owner_texts : List ℕ → BlockTree → List (List ℕ)
 owner_texts text block = texts_or_agent text (leaves_of (owner_attributes text block))
 

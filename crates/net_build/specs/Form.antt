@@ -14,8 +14,8 @@ pub record IsNodeName (name : List ℕ) : Type 0 where
   pub unsigned : is_name name ≡ true
   pub size : length name ≤ MOST_NAME_BYTES
 
--- The node names differ and are such words, labels and agents have a label's form, a utility has no label, and the
--- agents are those of the decisions and utilities in order of first sight.
+-- The node names differ and are such words, labels and agents have a label's form, a utility has no
+-- label, and the agents are those of the decisions and utilities in order of first sight.
 pub record HasTextForm (d : DiagramView) (names : NamesView) : Type 0 where
   pub distinct : AllPairs (λ name later. name ≢ later) names.nodes
   pub words : All IsNodeName names.nodes

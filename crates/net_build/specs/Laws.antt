@@ -26,8 +26,8 @@ Exclusive = (text : List ℕ) (blocks : List BlockTree) → IsExclusive (all_pas
 abbrev pub OneFault : Type 0
 OneFault = (text : List ℕ) (blocks : List BlockTree) → HasOneFault (all_passes text blocks)
 
--- the tree stands for a diagram within the limits, which is plain, and whose names fit it and have the form of names
--- in a text
+-- the tree stands for a diagram within the limits, which is plain, and whose names fit it and have
+-- the form of names in a text
 pub record HasDiagram (text : List ℕ) (blocks : List BlockTree) : Type 0 where
   pub diagram : DiagramView
   pub names : NamesView

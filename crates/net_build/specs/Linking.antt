@@ -1,5 +1,5 @@
--- The rows of the passes over potentials, the graph and the sizes: they speak of the names and heads of the nodes,
--- their parents and their potentials, as lists.
+-- The rows of the passes over potentials, the graph and the sizes: they speak of the names and
+-- heads of the nodes, their parents and their potentials, as lists.
 use Rattle.std.specs.Prelude.{◌≡◌, ◌≢◌, ◌<◌, ◌≤◌, ◌+◌, min, not, ℕ, List, [], Option, None, Some, map, filter, find, length, sum, All, Contains, slice_index, slice_index_or, bytes_eq, if◌then◌else◌}
 use Rattle.std.specs.List.{range_with_len}
 use Rattle.std.specs.Borrow.{Bor}

@@ -33,8 +33,8 @@ abbrev pub AreEnough : DiagramView → ℕ → Type 0
 AreEnough d k = (v : ℕ) → (node_at d.nodes v).kind ≡ Utility
     → All (λ x. (10 ^ d.decimals) ∣ nat_abs x * 10 ^ k) (node_at d.nodes v).cells
 
--- W(v) is the least common multiple of the reduced rows' totals, and the decimals are the least that all values of
--- utilities need
+-- W(v) is the least common multiple of the reduced rows' totals, and the decimals are the least
+-- that all values of utilities need
 pub record IsPlain (d : DiagramView) : Type 0 where
   pub weights : (v : ℕ) → (node_at d.nodes v).kind ≡ Chance
       → IsCommonTotal

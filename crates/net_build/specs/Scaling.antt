@@ -1,5 +1,5 @@
--- Numbers to scale: the decimals that are written in the text, and values times a power of ten. The rows of chance
--- tables are scaled by `weight_scale`, whose own definitions say how.
+-- Numbers to scale: the decimals that are written in the text, and values times a power of ten. The
+-- rows of chance tables are scaled by `weight_scale`, whose own definitions say how.
 use Rattle.std.specs.Prelude.{◌≡◌, ◌<◌, ◌^◌, ℕ, ℤ, pos, ◌*ℤ◌, List, [], length, slice_index_or, map}
 use Rattle.weight_scale.specs.Numeral.{numerator, denominator, IsDecimalOfNumeral}
 use Rattle.weight_scale.specs.declared.decimal.Decimal.{Decimal}

@@ -34,8 +34,9 @@ abbrev pub are_text_tokens : List Token → Bool
 are_text_tokens [] = false
 are_text_tokens (t ∷ ts) = list_all (λ u. is_text u.kind) (t ∷ ts)
 
--- what the node blocks say: names, labels and agents, and for each node where its name stands, its kind, the number
--- of its first owner and the count of its states; and the numbers of its further owners
+-- what the node blocks say: names, labels and agents, and for each node where its name stands, its
+-- kind, the number of its first owner and the count of its states; and the numbers of its further
+-- owners
 pub record NodeLists : Type 0 where
   pub names : List (List ℕ)
   pub labels : List (List (List ℕ))

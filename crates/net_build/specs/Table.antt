@@ -1,4 +1,5 @@
--- The table of passes, row by row. A text's first fault is the first that applies, by pass, then by item, then by row.
+-- The table of passes, row by row. A text's first fault is the first that applies, by pass, then by
+-- item, then by row.
 use Rattle.std.specs.Prelude.{◌+◌, ◌≡◌, ◌≢◌, ◌<◌, ◌≤◌, ◌*◌, ◌^◌, ℕ, pos, ◌<ℤ◌, nat_abs, false, List, [], ◌∷◌, Option, None, Some, map, filter, length, flat_map, All, Contains, slice_index_or}
 use Rattle.std.specs.List.{range_with_len}
 use Rattle.node_sets.specs.declared.sets.TheConstants.{MOST_NODES}

@@ -1,5 +1,5 @@
--- What the functions that read tables say beside the rows of the table of passes: of drafts, of scales, and of what
--- reading needs. No public contract needs it.
+-- What the functions that read tables say beside the rows of the table of passes: of drafts, of
+-- scales, and of what reading needs. No public contract needs it.
 use Rattle.std.specs.Prelude.{◌≡◌, ◌≢◌, ◌<◌, ◌≤◌, ◌-◌, ◌*◌, ◌/◌, ◌*ℤ◌, ◌^◌, ℕ, ℤ, pos, nat_abs, Bool, ◌&&◌, List, [], All, length, map, filter, flat_map, Option, IfSome, IsSome, true, slice_index_or, Result}
 use Rattle.std.specs.Option.{option_map_or}
 use Rattle.maid_model.specs.declared.diagrams.Kind.{Kind}
@@ -89,7 +89,8 @@ abbrev pub numerals_in : List ℕ → Option BlockTree → List (List ℕ)
 numerals_in text potential =
     map (token_bytes text) (option_map_or (λ p. leaves_of (data_of text p)) potential [])
 
--- what is known of a node's table before the scale of utilities is: a chance node's weights, and a utility's values
+-- what is known of a node's table before the scale of utilities is: a chance node's weights, and a
+-- utility's values
 abbrev pub IsDraftOf : Kind → ℕ → ℕ → List (List ℕ) → Draft → Type 0
 IsDraftOf Chance rows states numerals (Cells cells) = (decimals : List Decimal)
     × AreDecimals numerals decimals × IsWeighed decimals states cells.items
@@ -139,7 +140,8 @@ abbrev pub block_values : List ℕ → NodeLists → List BlockTree → List Tok
 block_values text nodes blocks =
     flat_map (λ p. leaves_of (data_of text p)) (filter (has_values text nodes) blocks)
 
--- what reading the tables needs: each node has states, and each chance node and utility its potential
+-- what reading the tables needs: each node has states, and each chance node and utility its
+-- potential
 pub record CanReadTables (text : List ℕ) (heads : List Head) (links : LinkLists) : Type 0 where
   pub states : All (λ h. 0 < h.states) heads
   pub parents_len : length links.parents ≡ length heads

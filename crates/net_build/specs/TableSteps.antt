@@ -1,4 +1,5 @@
--- What the steps of reading potentials and tables promise, over the nodes and the links that they are handed.
+-- What the steps of reading potentials and tables promise, over the nodes and the links that they
+-- are handed.
 use Rattle.std.specs.Prelude.{◌≡◌, ℕ, List, None, Option, Some, Result, slice_set}
 use Rattle.first_fault.specs.Answers.{Passes}
 use Rattle.net_parser.specs.Trees.{BlockTree}

@@ -111,8 +111,8 @@ fn is_repeated(
     requires own { IsAttributeOf text.now attribute.now }
     ensures { result ≡ is_repeat text.now kind before.now attribute.now }
 {
-    // In a block at most two topics count, and a second attribute of one is refused: so few are compared with those
-    // before them.
+    // In a block at most two topics count, and a second attribute of one is refused: so few are
+    // compared with those before them.
     counts(kind, word_of(text, attribute))
         && has_counted(text, kind, before, topic_of(text, attribute))
 }

@@ -115,8 +115,8 @@ fn read_diagram(
     Ok(make_diagram(alloc, nodes, &links, tables)?)
 }
 
-/// The diagram and the names that the tree of a text stands for, or the first fault of the table of passes. It goes over
-/// the tree a few times.
+/// The diagram and the names that the tree of a text stands for, or the first fault of the table of
+/// passes. It goes over the tree a few times.
 pub fn build(
     alloc: Global,
     text: &[u8],

@@ -93,7 +93,8 @@ pub fn read_conditions(
     ensures rows { PassesConditions text.now names.now heads.now conditions.now result }
     ensures nodes { IfOk result (AreNodesNamed text.now names.now conditions.now) }
 {
-    // A name that stands twice is refused there, so that each is compared with no more than there are nodes.
+    // A name that stands twice is refused there, so that each is compared with no more than there
+    // are nodes.
     let mut list = Vec::new(alloc);
     for (place, name) in conditions.iter().enumerate() {
         list.push(read_condition(text, names, heads, &conditions[..place], name)?)?;

@@ -8,8 +8,8 @@ use indexmap::IndexSet;
 use std::alloc::{AllocError, AllocFailed, Global};
 use std::marker::Model;
 
-/// Names that differ, in the order in which they were added. The hashes have no secret: names that are made to have one
-/// hash are compared in order.
+/// Names that differ, in the order in which they were added. The hashes have no secret: names that
+/// are made to have one hash are compared in order.
 #[derive(Drop)]
 pub struct DistinctNames {
     names: IndexSet<Vec<u8>>,

@@ -26,7 +26,8 @@ use net_parser::{Attribute, Block, Value};
 use std::alloc::{AllocError, Global};
 use weight_scale::Decimal;
 
-/// A node's table: its cells (none at a decision), or a utility's values, which are still to be scaled.
+/// A node's table: its cells (none at a decision), or a utility's values, which are still to be
+/// scaled.
 #[derive(Drop)]
 pub enum Draft {
     Cells(Vec<i128>),
@@ -61,7 +62,8 @@ fn read_cells(
     }
 }
 
-// The table in the value of `data`, whose leaves these are. Most chance tables are read in one pass.
+// The table in the value of `data`, whose leaves these are. Most chance tables are read in one
+// pass.
 fn read_leaves(
     alloc: Global,
     text: &[u8],
@@ -85,8 +87,8 @@ fn read_leaves(
     read_cells(alloc, text, head, rows, table, numerals)
 }
 
-// The table in the value of `data`. The leaves of a list without a list inside are lent; those of any other value are
-// listed anew.
+// The table in the value of `data`. The leaves of a list without a list inside are lent; those of
+// any other value are listed anew.
 fn read_data(
     alloc: Global,
     text: &[u8],

@@ -37,8 +37,8 @@ pub enum BuildKind {
     BadStates,
     /// A label has a byte below 32 or more than 255 bytes.
     BadLabel,
-    /// The `agent` is no string, or the `agents` are no list of one or more strings, or one has a byte below 32 or more
-    /// than 255 bytes.
+    /// The `agent` is no string, or the `agents` are no list of one or more strings, or one has a
+    /// byte below 32 or more than 255 bytes.
     BadAgent,
     /// An agent stands twice in a list of `agents`.
     RepeatedAgent,

@@ -26,7 +26,8 @@ pub fn a_tree_has_one_fault()
     parents_have_one_cycle_at_most();
 }
 
-/// A tree that a text's tokens spell, and in which the passes find nothing, stands for one diagram and the names in it.
+/// A tree that a text's tokens spell, and in which the passes find nothing, stands for one diagram
+/// and the names in it.
 pub fn a_tree_stands_for_one_diagram()
     ensures some_diagram { SomeDiagram }
     ensures one_diagram { OneDiagram }

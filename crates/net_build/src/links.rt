@@ -20,7 +20,8 @@ use net_parser::{Block, Syntax};
 use std::alloc::Global;
 use std::marker::Model;
 
-/// What the potentials say, node by node: the numbers of its parents in order, and its potential where it has one.
+/// What the potentials say, node by node: the numbers of its parents in order, and its potential
+/// where it has one.
 #[derive(Drop)]
 pub struct Links<'a, 't> {
     pub parents: Vec<Vec<usize>>,
@@ -45,8 +46,8 @@ impl<'a, 't> Model for Links<'a, 't> {
         } };
 }
 
-// The nodes of these heads with these parents and potentials: no table is missing, there is no cycle, and tables and
-// rules keep their limits.
+// The nodes of these heads with these parents and potentials: no table is missing, there is no
+// cycle, and tables and rules keep their limits.
 fn check_links(
     alloc: Global,
     heads: &[Head],
@@ -65,9 +66,9 @@ fn check_links(
     Ok(())
 }
 
-/// What the potentials say. The passes are tried one after the other: the potentials, a potential for each chance and
-/// utility node, no cycle, and the sizes of tables and rules. It goes over the text once, and looks up each name in a
-/// potential among the names of the nodes.
+/// What the potentials say. The passes are tried one after the other: the potentials, a potential
+/// for each chance and utility node, no cycle, and the sizes of tables and rules. It goes over the
+/// text once, and looks up each name in a potential among the names of the nodes.
 pub fn read_links<'a, 't>(
     alloc: Global,
     text: &[u8],

@@ -20,8 +20,8 @@ use net_parser::{Block, BlockKind, Syntax};
 use std::alloc::{AllocError, Global};
 use std::marker::Model;
 
-/// What a node block says in numbers: where its name stands, and the node's kind, the number of its first owner (0 at
-/// a chance node) and the count of its states.
+/// What a node block says in numbers: where its name stands, and the node's kind, the number of its
+/// first owner (0 at a chance node) and the count of its states.
 #[derive(Clone, Copy)]
 pub struct Head {
     pub at: u32,
@@ -30,8 +30,8 @@ pub struct Head {
     pub states: usize,
 }
 
-/// What the node blocks say, node by node, and the agents in order of first sight. `more` has the numbers of each node's
-/// owners after the first.
+/// What the node blocks say, node by node, and the agents in order of first sight. `more` has the
+/// numbers of each node's owners after the first.
 #[derive(Drop)]
 pub struct Nodes {
     pub names: DistinctNames,
@@ -159,7 +159,8 @@ fn state_count(text: &[u8], block: &Block<'_>, labels: &[Vec<u8>]) -> usize
     }
 }
 
-// What a node block says behind those of these names and agents. Each owner is added to the agents where it is new.
+// What a node block says behind those of these names and agents. Each owner is added to the agents
+// where it is new.
 fn read_entry(
     alloc: Global,
     text: &[u8],
@@ -190,8 +191,8 @@ fn read_entry(
     })
 }
 
-// Adds what one node block says. It stands apart since each refusal in `add_blocks` would drop the entry, and each such
-// drop is proved.
+// Adds what one node block says. It stands apart since each refusal in `add_blocks` would drop the
+// entry, and each such drop is proved.
 fn enter(names: &mut DistinctNames, columns: &mut Columns, entry: Entry) -> Result<(), AllocError>
     requires { ¬ Contains names.old entry.name.items }
     ensures names { OnOk result (names.new ≡ names.old ++ entry.name.items ∷ []) }
@@ -228,8 +229,8 @@ fn add_blocks(
     Ok(())
 }
 
-// What the node blocks among these say. The lists are made here and filled by a function that borrows them, since each
-// refusal there would drop them, and each such drop is proved.
+// What the node blocks among these say. The lists are made here and filled by a function that
+// borrows them, since each refusal there would drop them, and each such drop is proved.
 fn read_blocks(alloc: Global, text: &[u8], blocks: &[Block<'_>]) -> Result<Nodes, BuildFault>
     requires { All (IsBlockOf text.now) blocks.now }
     ensures rows { Passes build_fault (node_pass text.now blocks.now) result }

@@ -81,8 +81,8 @@ fn plain_cells(
     Ok(Some(cells))
 }
 
-/// The draft of a chance table whose numbers are its weights as they stand: it takes no memory but the cells. Any other
-/// table has none here, and one that has a fault neither.
+/// The draft of a chance table whose numbers are its weights as they stand: it takes no memory but
+/// the cells. Any other table has none here, and one that has a fault neither.
 pub fn plain_draft(
     alloc: Global,
     text: &[u8],

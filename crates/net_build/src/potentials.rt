@@ -137,8 +137,8 @@ fn enter<P: Drop>(
     potentials[node] = Some(potential);
 }
 
-// Enters the parents and the potential of each node that has a potential, where no node has any. It stands apart since
-// each refusal in it would drop the lists, and each such drop is proved.
+// Enters the parents and the potential of each node that has a potential, where no node has any. It
+// stands apart since each refusal in it would drop the lists, and each such drop is proved.
 fn enter_potentials<'a, 't>(
     alloc: Global,
     text: &[u8],

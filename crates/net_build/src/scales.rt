@@ -84,8 +84,8 @@ fn check_wide(tokens: &[Token], decimals: &[Decimal], scale: u32) -> Result<(), 
     Ok(())
 }
 
-/// By how many decimals these numbers are scaled: the least number that makes each of them whole. Refused is the first
-/// that is too great or too little to that scale.
+/// By how many decimals these numbers are scaled: the least number that makes each of them whole.
+/// Refused is the first that is too great or too little to that scale.
 pub fn scale_of(alloc: Global, text: &[u8], tokens: &[Token]) -> Result<u32, BuildFault>
     requires own { All (IsTokenOf text.now) tokens.now }
     requires numbers { All (λ t. is_number t.kind ≡ true) tokens.now }

@@ -66,7 +66,8 @@ fn check_rules(head: &Head, rules: u128) -> Result<(), BuildFault>
     Ok(())
 }
 
-// The node over these parents keeps the limits behind rules of so many cells; it gives how many there are with its own.
+// The node over these parents keeps the limits behind rules of so many cells; it gives how many
+// there are with its own.
 fn check_size(
     heads: &[Head],
     parents: &[usize],

@@ -114,8 +114,8 @@ fn drafts_fit(drafts: &[Draft], scale: u32) -> bool
     true
 }
 
-// By how many decimals the utilities' values are scaled. Only where one of them doesn't fit are they read again, in text
-// order, to find the first.
+// By how many decimals the utilities' values are scaled. Only where one of them doesn't fit are
+// they read again, in text order, to find the first.
 fn utility_scale(
     alloc: Global,
     text: &[u8],
@@ -155,10 +155,10 @@ fn finish(alloc: Global, drafts: Vec<Draft>, scale: u32) -> Result<Vec<Vec<i128>
     Ok(cells)
 }
 
-/// The tables of chance nodes and utilities, in text order, and then the utilities' values to one scale. A chance table
-/// is scaled row by row, and each utility value is multiplied by the least power of ten that makes all of them whole.
-/// The cost is linear in the text. Where a value doesn't fit, the head of each potential is looked up among the nodes
-/// besides.
+/// The tables of chance nodes and utilities, in text order, and then the utilities' values to one
+/// scale. A chance table is scaled row by row, and each utility value is multiplied by the least
+/// power of ten that makes all of them whole. The cost is linear in the text. Where a value doesn't
+/// fit, the head of each potential is looked up among the nodes besides.
 pub fn read_tables(
     alloc: Global,
     text: &[u8],

@@ -50,7 +50,8 @@ fn push_data(tokens: &mut Vec<Token>, text: &[u8], potential: &Block<'_>) -> Res
     Ok(())
 }
 
-/// The numbers of all utilities, as they stand in the text. It looks up each potential's head among the nodes.
+/// The numbers of all utilities, as they stand in the text. It looks up each potential's head among
+/// the nodes.
 pub fn utility_numbers(
     alloc: Global,
     text: &[u8],

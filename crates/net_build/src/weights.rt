@@ -9,9 +9,10 @@ use net_lexer::Token;
 use std::alloc::Global;
 use weight_scale::{Decimal, ScaleFault, scale_rows};
 
-/// The weights of a chance table of these numbers, which stand at these tokens: its rows taken in proportion, and brought
-/// to one total. The word `data` stands at `at`. Refused are, in this order, the first number below nought, the first row
-/// of total nought, and a common total that is too great.
+/// The weights of a chance table of these numbers, which stand at these tokens: its rows taken in
+/// proportion, and brought to one total. The word `data` stands at `at`. Refused are, in this
+/// order, the first number below nought, the first row of total nought, and a common total that is
+/// too great.
 pub fn weights(
     alloc: Global,
     at: u32,

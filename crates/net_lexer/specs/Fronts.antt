@@ -12,7 +12,8 @@ use Rattle.net_lexer.specs.declared.pieces.PieceKind.{PieceKind}
 abbrev pub BeginsWithPiece : List ℕ → PieceKind → ℕ → Type 0
 BeginsWithPiece text kind len = IsPieceOf text (record { kind = kind; start = 0; end = len })
 
--- the first byte that the bytes mean, and what stands behind it or its escape; none where there are no bytes
+-- the first byte that the bytes mean, and what stands behind it or its escape; none where there are
+-- no bytes
 abbrev pub IsFirstMeant : List ℕ → Option (ℕ × Bor (List ℕ)) → Type 0
 IsFirstMeant bytes first =
     MatchOption first (bytes ≡ []) (λ p. unescaped bytes ≡ p.0 ∷ unescaped p.1.now)
@@ -31,7 +32,8 @@ abbrev pub ends_as_numeral : List ℕ → Bool
 ends_as_numeral bytes =
     not (begins is_run_byte bytes) || (begins is_point bytes && ends_in_digits (drop 1 bytes))
 
--- the run at the front is written as most numerals are: digits, and perhaps a point and digits behind them
+-- the run at the front is written as most numerals are: digits, and perhaps a point and digits
+-- behind them
 abbrev pub is_plain_run : List ℕ → Bool
 is_plain_run bytes = not (prefix_len is_digit bytes == 0)
     && ends_as_numeral (drop (prefix_len is_digit bytes) bytes)

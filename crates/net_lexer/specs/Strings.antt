@@ -28,8 +28,8 @@ abbrev pub is_open_string : List ℕ → Bool
 is_open_string [] = false
 is_open_string (b ∷ bytes) = is_quote b && is_none (behind_quote bytes)
 
--- the bytes with escapes undone: a backslash and a following quote or backslash mean the second of them, and any
--- other byte means itself
+-- the bytes with escapes undone: a backslash and a following quote or backslash mean the second of
+-- them, and any other byte means itself
 abbrev pub unescaped : List ℕ → List ℕ
 unescaped [] = []
 unescaped (b ∷ []) = b ∷ []

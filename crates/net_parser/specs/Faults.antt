@@ -26,8 +26,8 @@ abbrev pub IsWrong : List Lexeme → List Lexeme → Type 0
 IsWrong before [] = IsSentence before → ⊥
 IsWrong before (l ∷ after) = IsPossible (before ++ l ∷ []) → ⊥
 
--- Behind the tokens before, which are possible, the rest begins with the first impossible token, or is empty where
--- the text ends too early.
+-- Behind the tokens before, which are possible, the rest begins with the first impossible token, or
+-- is empty where the text ends too early.
 pub record Stops (tokens before rest : List Lexeme) : Type 0 where
   pub all : tokens ≡ before ++ rest
   pub possible : IsPossible before
@@ -54,7 +54,8 @@ pub record IsModelAttribute (before : List Lexeme) (l : Lexeme) : Type 0 where
       (name : Lexeme) → IsName name → (IsModelName name → ⊥) → IsPossible (before ++ name ∷ [])
   pub word : IsModelName l
 
--- the impossible token is the word of such a block, `function` in the place of `node`, or a model's word as a name
+-- the impossible token is the word of such a block, `function` in the place of `node`, or a model's
+-- word as a name
 abbrev pub IsUnsupported : List Lexeme → List Lexeme → Type 0
 IsUnsupported before [] = ⊥
 IsUnsupported before (l ∷ after) =

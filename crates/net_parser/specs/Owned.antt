@@ -32,8 +32,8 @@ pub record IsAttributeOf (text : List ℕ) (attribute : AttributeTree) : Type 0 
   pub name : IsNameOf text attribute.name
   pub value : All (IsLeafOf text) (leaves attribute.value)
 
--- how many names a block has: none before the net part's body, one in a node block, a head and any others in a
--- potential
+-- how many names a block has: none before the net part's body, one in a node block, a head and any
+-- others in a potential
 abbrev pub HasNames : BlockKind → ℕ → Type 0
 HasNames Net count = count ≡ 0
 HasNames Potential count = 0 < count

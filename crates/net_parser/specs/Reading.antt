@@ -89,7 +89,8 @@ abbrev pub block_token : Bool → TokenKind → List ℕ → Option (List Symbol
 block_token first kinds.Word bytes = block_word first bytes
 block_token first kind bytes = None
 
--- what may come behind a token of that kind and with these bytes, in the place of the symbol, if it may stand there
+-- what may come behind a token of that kind and with these bytes, in the place of the symbol, if it
+-- may stand there
 abbrev pub next : Symbol → TokenKind → List ℕ → Option (List Symbol)
 next (mark kind) seen bytes = if same_kind kind seen then Some [] else None
 next name kinds.Word bytes = if is_name bytes then Some [] else None
@@ -226,7 +227,8 @@ abbrev pub block_place : Bool → Place
 block_place true = start
 block_place false = within []
 
--- Reading of a block, or of its front: what is still to come of the block is met behind what is read.
+-- Reading of a block, or of its front: what is still to come of the block is met behind what is
+-- read.
 abbrev pub FollowsInBlock : {A : Type 0} → Bool → (A → List Symbol) → Result A Stop → List Lexeme
     → List Lexeme → Type 0
 FollowsInBlock first rest result old new =

@@ -12,7 +12,8 @@ pub fn tokens_read_one_way()
     ensures one_fault { OneFault }
 {}
 
-/// The blocks that the tokens of a text spell are made of these tokens, with as many names as the kind of block asks for.
+/// The blocks that the tokens of a text spell are made of these tokens, with as many names as the
+/// kind of block asks for.
 pub fn blocks_stand_in_their_text()
     ensures blocks { OwnBlocks }
 {

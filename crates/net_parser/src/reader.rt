@@ -1,8 +1,8 @@
 //! A reader over the tokens of a text.
 //!
-//! Each rule of the grammar is read by a method: on `Ok` it has gone past the tokens that spell what
-//! it answers, and on `Err` it stands before the first impossible token. `terminals` has the rules
-//! of one token, `values` and `blocks` those made of others.
+//! Each rule of the grammar is read by a method: on `Ok` it has gone past the tokens that spell
+//! what it answers, and on `Err` it stands before the first impossible token. `terminals` has the
+//! rules of one token, `values` and `blocks` those made of others.
 
 ghost use Rattle.std.specs.Prelude.{◌≡◌, ◌<◌, List, [], length, drop, map, All, IfSome, IfNone, IsTrue, is_some};
 ghost use Rattle.std.specs.List.{prefix_len};

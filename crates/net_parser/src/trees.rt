@@ -30,8 +30,8 @@ impl BlockKind {
     }
 }
 
-/// An attribute's value: a string, a numeral or a word, or a list of values in parentheses. A list in which no list
-/// stands is lent from the tokens, so that a table takes no memory in the tree.
+/// An attribute's value: a string, a numeral or a word, or a list of values in parentheses. A list
+/// in which no list stands is lent from the tokens, so that a table takes no memory in the tree.
 #[derive(Drop)]
 pub enum Value<'a> {
     Leaf(Token),

@@ -1,4 +1,5 @@
--- The heads, the parents and the potentials that the tree of a printed text tells, and the counts of rows and cells that they make.
+-- The heads, the parents and the potentials that the tree of a printed text tells, and the counts
+-- of rows and cells that they make.
 use Rattle.std.proofs.Common.{◌≡◌, ◌∙◌, ℕ, ◌<◌, ◌*◌, List, [], Some, None, length, get_or, sym, ap, subst}
 use Rattle.std.proofs.Math.ListN.{get_or-map}
 use Rattle.std.proofs.Math.Path.{fun_ext}

@@ -79,7 +79,8 @@ number_by minus whole rest exponent = signed minus (number_of (whole ++ rest) * 
 abbrev tens_by : List ℕ → List ℕ → ℕ
 tens_by rest exponent = 10 ^ length rest * (if is_minus exponent then 10 ^ exponent_size exponent else 1)
 
--- A numeral without an exponent is its digits with its sign, over a ten for each digit behind the point.
+-- A numeral without an exponent is its digits with its sign, over a ten for each digit behind the
+-- point.
 pub numerator_is : (text bytes whole rest : List ℕ) (minus : Bool) → is_minus text ≡ minus → without_sign text ≡ bytes → IsSpelt bytes whole rest → numerator text ≡ signed minus (number_of (whole ++ rest))
 numerator_is text bytes whole rest minus sign is spelt =
     let w : whole_digits text ≡ whole = ap front_digits is ∙ spelt.whole_are in

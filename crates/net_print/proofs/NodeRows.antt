@@ -1,4 +1,5 @@
--- The attributes of a node's block in a printed text have no fault: each stands once, the labels are strings of a label's form, and so is the agent.
+-- The attributes of a node's block in a printed text have no fault: each stands once, the labels
+-- are strings of a label's form, and so is the agent.
 use Rattle.std.proofs.Common.{◌≡◌, ◌∙◌, ◌≢◌, ℕ, zero, suc, ◌<◌, ◌≤◌, Bool, true, false, ◌&&◌, cond, List, [], ◌∷◌, length, map, filter, All, AllPairs, Contains, None, codes, refl, sym, ap, subst, arith}
 use Rattle.std.specs.List.{list_all}
 use Rattle.std.specs.Prelude.{if◌then◌else◌}

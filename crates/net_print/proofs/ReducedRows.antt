@@ -1,4 +1,5 @@
--- The reduced rows of a chance table, one by one: where each stands, what it adds up to, and that it scales back to its cells.
+-- The reduced rows of a chance table, one by one: where each stands, what it adds up to, and that
+-- it scales back to its cells.
 use Rattle.std.proofs.Common.{◌≡◌, ◌<◌, ◌≤◌, ◌+◌, ◌*◌, ⊎_elim, ℕ, zero, suc, ℤ, pos, ◌≤ℤ◌, unsigned_abs, refl, sym, ap, ◌∙◌, arith, subst, List, [], ◌∷◌, ◌++◌, All, map, length, take, drop, sum}
 use Rattle.std.specs.Int.{◌∣◌}
 use Rattle.std.proofs.Math.Seq.{drop-append_seam}

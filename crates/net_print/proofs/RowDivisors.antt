@@ -1,4 +1,5 @@
--- A row over its greatest common divisor: its numbers share no divisor but 1, and times the divisor they are the row.
+-- A row over its greatest common divisor: its numbers share no divisor but 1, and times the divisor
+-- they are the row.
 use Rattle.std.proofs.Common.{◌≡◌, ◌<◌, ◌≤◌, ◌+◌, ◌*◌, ◌/◌, ◌%◌, ℕ, zero, suc, pos, refl, sym, ap, ◌∙◌, arith, subst, List, [], ◌∷◌, All, map, get_or, sum}
 use Rattle.std.specs.Int.{IsGcd, ◌∣◌}
 use Rattle.std.proofs.Math.Nat.{div-mul_cancel, mul-div_cancel, mul-dvd-mul_right, dvd_of_mul-dvd-mul_right, dvd-mul_left, dvd-mul_right, pos_of_dvd_of_pos}

@@ -1,4 +1,5 @@
--- The pass over tables finds nothing in the tree of a printed text, and the tables that it tells are the nodes' cells.
+-- The pass over tables finds nothing in the tree of a printed text, and the tables that it tells
+-- are the nodes' cells.
 use Rattle.std.proofs.Common.{◌≡◌, ◌∙◌, ◌≢◌, ℕ, ◌*◌, ◌<◌, ◌≤◌, ℤ, nat_abs, List, [], length, map, get_or, decimal, codes, None, Some, refl, sym, ap, subst, arith}
 use Rattle.std.specs.List.{range_with_len}
 use Rattle.std.proofs.lemmas.List.{get_or-map, length-map}

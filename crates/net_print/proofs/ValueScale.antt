@@ -1,4 +1,5 @@
--- Printed values to scale: each times the scale's power of ten is its cell, and which powers of ten make it whole.
+-- Printed values to scale: each times the scale's power of ten is its cell, and which powers of ten
+-- make it whole.
 use Rattle.std.proofs.Common.{◌≡◌, ◌∙◌, ℕ, zero, suc, ◌*◌, ◌/◌, ◌^◌, ◌<◌, ℤ, pos, ◌*ℤ◌, nat_abs, unsigned_abs, Bool, true, false, List, [], map, get_or, All, refl, sym, ap, subst, arith}
 use Rattle.std.specs.Int.{◌∣◌}
 use Rattle.std.proofs.Math.Nat.{div-mul_cancel, dvd-mul_right, eq_of_mul-eq-mul_right}
@@ -70,7 +71,8 @@ divides_from k j cell text is (x, scaled) =
     let across : (10 ^ k * m) * 10 ^ is.decimals ≡ (size * 10 ^ j) * 10 ^ is.decimals = omega (arith, ap (λ y. y * 10 ^ k) sizes, ap (λ y. y * 10 ^ j) is.value) in
     subst (λ n. (10 ^ k) ∣ n) (eq_of_mul-eq-mul_right (10 ^ is.decimals) (tens_positive is.decimals) _ _ across) (dvd-mul_right (10 ^ k) m)
 
--- A printed value times a power of ten is whole where the cell times that is a multiple of its own power of ten, and only there.
+-- A printed value times a power of ten is whole where the cell times that is a multiple of its own
+-- power of ten, and only there.
 pub value_whole : (k j : ℕ) (cell : ℤ) → nat_abs cell < 10 ^ 64 → (10 ^ k) ∣ nat_abs cell * 10 ^ j → IsWholeBy j (value_text k cell)
 value_whole k j cell h divides = whole_from k j cell (value_text k cell) (value_parts k cell h) divides
 

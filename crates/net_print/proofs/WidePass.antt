@@ -1,4 +1,5 @@
--- The pass over utility values finds nothing in the tree of a printed text, and the decimals are the scale of its values.
+-- The pass over utility values finds nothing in the tree of a printed text, and the decimals are
+-- the scale of its values.
 use Rattle.std.proofs.Common.{◌≤◌, ℕ, nat_abs, List, get_or, All, None}
 use Rattle.maid_model.specs.Diagrams.{greatest_number}
 use Rattle.maid_model.specs.Names.{NamesView}

@@ -1,5 +1,5 @@
--- The text of a diagram: a line for each node block, and then a line for each potential, both in the order of the
--- nodes.
+-- The text of a diagram: a line for each node block, and then a line for each potential, both in
+-- the order of the nodes.
 use Rattle.std.specs.Prelude.{ℕ, zero, suc, ◌-◌, ◌/◌, ◌%◌, ◌^◌, ◌==◌, ℤ, pos, negsuc, unsigned_abs, List, [], ◌∷◌, ◌++◌, length, map, replicate, codes, decimal, if◌then◌else◌}
 use Rattle.std.specs.List.{flat_map}
 use Rattle.maid_model.specs.declared.diagrams.Kind.{Kind}
@@ -73,7 +73,8 @@ parents_text names (u ∷ us) = codes " |" ++ spaced (map (name_of names) (u ∷
 abbrev pub padded : ℕ → ℕ → List ℕ
 padded width number = replicate (width - length (decimal number)) 48 ++ decimal number
 
--- size / 10^k with the least number of decimals: while there are decimals, a nought at the end is dropped
+-- size / 10^k with the least number of decimals: while there are decimals, a nought at the end is
+-- dropped
 abbrev pub size_text : ℕ → ℕ → List ℕ
 size_text zero size = decimal size
 size_text (suc k) size = if size % 10 == 0

@@ -23,7 +23,8 @@ pub record IsPrintable (d : DiagramView) (names : NamesView) : Type 0 where
   pub fit : NamesFit d names
   pub form : HasTextForm d names
 
--- the text has tokens, they spell a tree, and without a fault it stands for the diagram and the names
+-- the text has tokens, they spell a tree, and without a fault it stands for the diagram and the
+-- names
 abbrev pub ReadsAs : List ℕ → DiagramView → NamesView → Type 0
 ReadsAs text d names = (tokens : List Token) × (tree : List BlockTree) × IsTokens text tokens
     × Spells tree (lexemes text tokens) × all_passes text tree None × StandsFor text tree d names

@@ -83,7 +83,8 @@ pub fn push_value(out: &mut Vec<u8>, cell: i128, decimals: u32) -> Result<(), Al
     push_decimal(out, size, decimals)
 }
 
-// The greatest common divisor of both. A divisor of 1 stays 1, as in most rows: no division is needed.
+// The greatest common divisor of both. A divisor of 1 stays 1, as in most rows: no division is
+// needed.
 fn joint_divisor(divisor: u128, size: u128) -> u128
     ensures { IsGcd divisor size result }
 {

@@ -9,8 +9,9 @@ use crate::potentials::push_potentials;
 use maid_model::{Diagram, Names};
 use std::alloc::{AllocError, Global};
 
-/// The text of a diagram with these names: first each node's block, then each node's potential, a line each. Weights are
-/// printed as reduced rows of whole numbers, and utilities as decimals. Its cost is that of the text it makes.
+/// The text of a diagram with these names: first each node's block, then each node's potential, a
+/// line each. Weights are printed as reduced rows of whole numbers, and utilities as decimals. Its
+/// cost is that of the text it makes.
 #[tactic(auto, using(std::proofs::Common::append_assoc), unfolding(crate::specs::Printed::printed))]
 pub fn print(alloc: Global, diagram: &Diagram, names: &Names) -> Result<Vec<u8>, AllocError>
     requires { NamesFit diagram.now names.now }

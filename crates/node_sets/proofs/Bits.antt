@@ -1,4 +1,5 @@
--- The bit of a number in a list of words, after one word changes, and in words that are made from those of two sets.
+-- The bit of a number in a list of words, after one word changes, and in words that are made from
+-- those of two sets.
 use Rattle.std.proofs.Common.{◌≡◌, ℕ, zero, suc, ◌-◌, ◌/◌, ◌%◌, ◌<◌, ◌≤◌, true, List, [], ◌∷◌, length, get_or, set, ◌⊎◌, ◌↔◌, inl, inr, refl, sym, ap, ◌∙◌, arith, eqb, max, min}
 use Rattle.std.specs.Int.{bit_at}
 use Rattle.std.proofs.lemmas.Bool.{cases_eq}

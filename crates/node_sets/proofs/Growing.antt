@@ -1,4 +1,5 @@
--- Sets that grow, step by step: what two steps gain together, and that the room falls. Crates above may cite these.
+-- Sets that grow, step by step: what two steps gain together, and that the room falls. Crates above
+-- may cite these.
 use Rattle.std.proofs.Common.{◌≡◌, ℕ, zero, suc, ◌+◌, ◌<◌, ◌≤◌, Bool, true, false, cond, ◌||◌, List, [], ◌∷◌, ◌++◌, length, take, get_or, ◌⊎◌, ◌↔◌, inl, inr, refl, subst, sym, ap, ◌∙◌, arith}
 use Rattle.std.specs.Prelude.{Contains}
 use Rattle.std.proofs.lemmas.Bool.{cases_eq, false≢true}

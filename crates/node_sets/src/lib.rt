@@ -1,4 +1,5 @@
-//! Sets of node numbers, as one bit for each number, and the nodes that paths of arcs join to those of a set.
+//! Sets of node numbers, as one bit for each number, and the nodes that paths of arcs join to those
+//! of a set.
 #![tactic(auto)]
 
 mod arcs;

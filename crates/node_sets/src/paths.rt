@@ -70,14 +70,16 @@ pub fn parents_of_any<G: Graph>(graph: &G, set: &NodeSet) -> NodeSet
     steps_from(graph, Way::Up, set)
 }
 
-/// These nodes, and all to which a path of arcs leads from one of them. It looks once at the children of each.
+/// These nodes, and all to which a path of arcs leads from one of them. It looks once at the
+/// children of each.
 pub fn descendants<G: Graph>(graph: &G, of: NodeSet) -> NodeSet
     ensures { (v : ℕ) → IsIn result v ↔ LeadsFrom (ParentArc (G.parents_of graph.now)) (IsIn of) v }
 {
     follow(graph, Way::Down, of)
 }
 
-/// These nodes, and all from which a path of arcs leads to one of them. It looks once at the parents of each.
+/// These nodes, and all from which a path of arcs leads to one of them. It looks once at the
+/// parents of each.
 pub fn ancestors<G: Graph>(graph: &G, of: NodeSet) -> NodeSet
     ensures { (v : ℕ) → IsIn result v ↔ LeadsInto (ParentArc (G.parents_of graph.now)) (IsIn of) v }
 {

@@ -48,8 +48,8 @@ impl NodeSet {
         self.first_from(0).is_none()
     }
 
-    /// The first node of the set from this number on. It looks at each of the words once at most, so a walk through the
-    /// whole set takes about as long as it has nodes.
+    /// The first node of the set from this number on. It looks at each of the words once at most,
+    /// so a walk through the whole set takes about as long as it has nodes.
     pub fn first_from(&self, from: usize) -> Option<usize>
         requires { from ≤ MOST_NODES }
         ensures { MatchOption result (HasNoneFrom self.now from) (IsFirstFrom self.now from) }
@@ -70,7 +70,8 @@ impl NodeSet {
         None
     }
 
-    /// The first node of the set from one number on and below another. It looks at the words as `first_from` does.
+    /// The first node of the set from one number on and below another. It looks at the words as
+    /// `first_from` does.
     pub fn first_between(&self, from: usize, end: usize) -> Option<usize>
         requires { from ≤ MOST_NODES }
         ensures { TellsFirstBetween self.now from end result }

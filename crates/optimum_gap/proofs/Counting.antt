@@ -1,4 +1,5 @@
--- What counts in an agent's scope: of two diagrams with the same utilities, the one with more arcs and greater factors covers the other.
+-- What counts in an agent's scope: of two diagrams with the same utilities, the one with more arcs
+-- and greater factors covers the other.
 use Rattle.std.proofs.Common.{◌≡◌, ◌∙◌, ℕ, ◌*◌, ◌<◌, ◌≤◌, ◌^◌, Bool, true, false, cond, filter, List, [], ◌∷◌, length, max, refl, sym, ap, subst, arith, inl, inr}
 use Rattle.std.proofs.lemmas.Nat.Gcd.{dvd_refl, le_of_dvd}
 use Rattle.std.proofs.Math.Nat.{dvd-mul_left_of_dvd, mul-dvd-mul, mul-le-mul_left, mul-le-mul_right}
@@ -41,7 +42,8 @@ product_divides f h p q (v ∷ vs) i d = go (p v) (q v) (i v (inl refl)) (produc
 pub product_some : (d : DiagramView) (agent : ℕ) → HasChanceTables d.nodes → 0 < scope_product_for d.nodes agent
 product_some d agent c = product_positive (chance_factor d.nodes) (filter (leads_to d.nodes (utilities_for d.nodes agent)) (numbers_of d.nodes)) (chances_positive d.nodes c)
 
--- the two diagrams have as many nodes and the same utilities of the agent; each arc of the one is one of the other, and each chance total of the one divides that of the other
+-- the two diagrams have as many nodes and the same utilities of the agent; each arc of the one is
+-- one of the other, and each chance total of the one divides that of the other
 pub record Counts (wide narrow : DiagramView) (agent : ℕ) : Type 0 where
   pub len : length narrow.nodes ≡ length wide.nodes
   pub utilities : (v : ℕ) → is_utility_of narrow.nodes agent v ≡ is_utility_of wide.nodes agent v

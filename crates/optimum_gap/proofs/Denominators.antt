@@ -1,4 +1,5 @@
--- Fractions in lowest terms: the denominator divides every denominator of the value (Euclid's lemma).
+-- Fractions in lowest terms: the denominator divides every denominator of the value (Euclid's
+-- lemma).
 use Rattle.std.proofs.Common.{◌≡◌, ◌∙◌, ℕ, zero, suc, ◌+◌, ◌*◌, ◌/◌, ◌%◌, ◌^◌, ◌<◌, ◌≤◌, refl, sym, ap, subst, arith, ℤ, pos, ◌+ℤ◌, ◌*ℤ◌, ◌-ℤ◌, ◌<ℤ◌, nat_abs, to_z, of_z, FitsSigned, rules}
 use Rattle.std.proofs.lemmas.Int.{ints, fits_signed_from_abs, unsigned_abs-mul}
 use Rattle.std.specs.Int.{w128}
@@ -16,7 +17,8 @@ use Rattle.maid_model.specs.Values.{IsDifference}
 use Rattle.whole_num.specs.Divisors.{IsLcm}
 use Rattle.optimum_gap.specs.Fractions.{CanWiden, IsOver, ShareDenominator}
 
--- what divides t times two numbers divides t times their greatest common divisor: by the remainders of Euclid's algorithm
+-- what divides t times two numbers divides t times their greatest common divisor: by the remainders
+-- of Euclid's algorithm
 divides_times : (fuel a b g t d : ℕ) → b ≤ fuel → IsGcd a b g → d ∣ t * a → d ∣ t * b → d ∣ t * g
 divides_times fuel a zero g t d le is da db = subst (λ z. d ∣ t * z) (same_from_IsGcd a zero a g (IsGcd-from_zero a zero refl) is) da
 divides_times zero a (suc b) g t d le is da db = absurd (omega arith)

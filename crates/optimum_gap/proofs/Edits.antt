@@ -1,4 +1,5 @@
--- What an edit leaves of an agent's scope: an arc less, a chance node as a decision, and the others' decisions as chance nodes.
+-- What an edit leaves of an agent's scope: an arc less, a chance node as a decision, and the
+-- others' decisions as chance nodes.
 use Rattle.std.proofs.Common.{◌≡◌, ◌≢◌, ◌∙◌, ℕ, ◌+◌, ◌*◌, Bool, true, false, ◌&&◌, List, ◌∷◌, map, slice_index_or, refl, sym, ap, subst, arith, inl, inr, ◌⊎◌, pos, nat_abs, ◌==◌}
 use Rattle.std.proofs.lemmas.Nat.Gcd.{dvd_refl}
 use Rattle.std.proofs.Math.Decide.{ℕ_discrete}

@@ -1,4 +1,5 @@
--- Optima as fractions of what counts in the agent's scope: so two optima have a common denominator where the one scope covers the other.
+-- Optima as fractions of what counts in the agent's scope: so two optima have a common denominator
+-- where the one scope covers the other.
 use Rattle.std.proofs.Common.{◌≡◌, ◌∙◌, ℕ, ◌*◌, ◌/◌, ◌<◌, ◌≤◌, ◌^◌, max, sym, ap, subst, arith, ℤ, pos, ◌*ℤ◌, nat_abs, le_trans, inl, inr}
 use Rattle.std.proofs.lemmas.Int.{unsigned_abs-mul}
 use Rattle.std.proofs.Math.Nat.{div-mul_cancel, mul-le-mul_left, mul-le-mul_right, mul-pos, pos_of_dvd_of_pos}
@@ -36,7 +37,8 @@ use Rattle.optimum_gap.specs.Laws.{AnswersAreBaselines}
 use Rattle.optimum_gap.proofs.Counting.{bound_covered, covers, product_some}
 use Rattle.optimum_gap.proofs.Edits.{alone_counts}
 
--- the fraction over the product of the agent's scope and the scale, with a numerator within the scope's bound
+-- the fraction over the product of the agent's scope and the scale, with a numerator within the
+-- scope's bound
 pub record IsOverScope (d : DiagramView) (agent : ℕ) (r : Ratio) : Type 0 where
   pub num : ℤ
   pub is : IsFraction r num (scope_product_for d.nodes agent * 10 ^ d.decimals)

@@ -14,7 +14,8 @@ use Rattle.optimum_gap.specs.declared.baselines.Baseline.{Baseline}
 abbrev pub alone : DiagramView → List AnswerView → ℕ → DiagramView
 alone d answers agent = with_nodes d (one_agent d.nodes agent answers)
 
--- a diagram in which the agent decides alone, with its optimum, within the weight bound of the agent's scope
+-- a diagram in which the agent decides alone, with its optimum, within the weight bound of the
+-- agent's scope
 pub record IsBaseline (d : DiagramView) (agent : ℕ) (optimum : Ratio) : Type 0 where
   pub within : agent < d.agents
   pub is_optimum : IsOptimum d.nodes d.decimals agent optimum
@@ -24,8 +25,8 @@ pub record IsBaseline (d : DiagramView) (agent : ℕ) (optimum : Ratio) : Type 0
 abbrev pub HoldsBaseline : Baseline → Type 0
 HoldsBaseline b = IsBaseline b.diagram.now b.agent b.optimum
 
--- in the agent's scope of the one diagram counts all that does in the other: P is a multiple, S is no less, and the
--- scale is the same
+-- in the agent's scope of the one diagram counts all that does in the other: P is a multiple, S is
+-- no less, and the scale is the same
 pub record CoversScope (wide narrow : DiagramView) (agent : ℕ) : Type 0 where
   pub product : scope_product_for narrow.nodes agent ∣ scope_product_for wide.nodes agent
   pub utilities : greatest_of narrow.nodes (utilities_for narrow.nodes agent)

@@ -13,8 +13,8 @@ use Rattle.maid_model.specs.Tables.{HasChanceTables}
 use Rattle.maid_model.specs.Views.{DiagramView, SolvedView}
 use Rattle.optimum_gap.specs.Baselines.{CoversScope, IsBaseline, alone}
 
--- The answer of a diagram gives a baseline for each agent: the diagram in which only it decides, with what the answer
--- gives it.
+-- The answer of a diagram gives a baseline for each agent: the diagram in which only it decides,
+-- with what the answer gives it.
 abbrev pub AnswersAreBaselines : Type 0
 AnswersAreBaselines = (d : DiagramView) (solved : SolvedView) (agent : ℕ) (r : Ratio) → IsDiagram d
     → IsAnswer d solved → KeepsScopedBounds d → agent < d.agents

@@ -25,7 +25,8 @@ fn refused(fault: SolveFault) -> Result<Found, AllocError>
     }
 }
 
-/// A diagram in which one agent decides alone, and its optimum there. Edits of the diagram are compared with it.
+/// A diagram in which one agent decides alone, and its optimum there. Edits of the diagram are
+/// compared with it.
 #[derive(Drop)]
 pub struct Baseline<'a> {
     pub diagram: &'a Diagram,
@@ -34,9 +35,10 @@ pub struct Baseline<'a> {
 }
 
 impl<'a> Baseline<'a> {
-    /// What the agent gains by the edit: its optimum in the edited diagram less the optimum before. The edited diagram
-    /// is solved once; the reason is the solver's where it is refused. What is kept of that diagram is not made again.
-    /// The run takes workspaces that another left, if they have the room, and leaves its own.
+    /// What the agent gains by the edit: its optimum in the edited diagram less the optimum before.
+    /// The edited diagram is solved once; the reason is the solver's where it is refused. What is
+    /// kept of that diagram is not made again. The run takes workspaces that another left, if they
+    /// have the room, and leaves its own.
     ///
     /// # Errors
     ///
@@ -65,9 +67,9 @@ impl<'a> Baseline<'a> {
         }
     }
 
-    /// What the agent loses by the edit: the optimum before less that in the edited diagram, which is solved once. What
-    /// is kept of that diagram is not made again. The run takes workspaces that another left, if they have the room, and
-    /// leaves its own.
+    /// What the agent loses by the edit: the optimum before less that in the edited diagram, which
+    /// is solved once. What is kept of that diagram is not made again. The run takes workspaces
+    /// that another left, if they have the room, and leaves its own.
     ///
     /// # Errors
     ///

@@ -17,8 +17,9 @@ fn widened(value: Ratio, den: u128) -> i128
     value.num * (den / value.den) as i128
 }
 
-/// The difference of two fractions in lowest terms. The products across may pass 128 bits, but over the least common
-/// multiple of the denominators both numerators keep the range where some common denominator lets them.
+/// The difference of two fractions in lowest terms. The products across may pass 128 bits, but over
+/// the least common multiple of the denominators both numerators keep the range where some common
+/// denominator lets them.
 pub(crate) fn difference(more: Ratio, less: Ratio) -> Ratio
     requires { ShareDenominator more less }
     ensures { IsDifference result more less }

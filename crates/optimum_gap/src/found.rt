@@ -9,7 +9,8 @@ pub enum Found {
     Value(Ratio),
     /// The graph alone tells that the edit does not matter: the two optima are equal.
     Worthless,
-    /// The edited diagram has a relevance cycle: each decision of the list relies on the next, and the last on the first.
+    /// The edited diagram has a relevance cycle: each decision of the list relies on the next, and
+    /// the last on the first.
     Cycle(Vec<usize>),
     /// The edited diagram passes the weight bound.
     Bound,

@@ -1,6 +1,8 @@
-//! What an edit of a diagram is worth to an agent who decides alone in it: the difference of two optima, exactly.
+//! What an edit of a diagram is worth to an agent who decides alone in it: the difference of two
+//! optima, exactly.
 //!
-//! The optimum before the edit is given, as the answer of the diagram tells it; only the edited diagram is solved.
+//! The optimum before the edit is given, as the answer of the diagram tells it; only the edited
+//! diagram is solved.
 #![tactic(auto)]
 
 mod baselines;

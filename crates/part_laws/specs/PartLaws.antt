@@ -13,8 +13,8 @@ use Rattle.maid_model.specs.Relevance.{IsGoal}
 use Rattle.maid_model.specs.Answers.{IsWorthAt, IsExpectedUtility}
 use Rattle.maid_model.specs.Parts.{with_ancestors, IsAncestral, place_in, renumbered, part_of, part_diagram, rules_in, mass_left_out}
 
--- Nodes and all their ancestors are nodes from which a path leads to one of the list, and have with each node its
--- parents.
+-- Nodes and all their ancestors are nodes from which a path leads to one of the list, and have with
+-- each node its parents.
 abbrev pub AncestorsAreClosed : Type 0
 AncestorsAreClosed = (nodes : List NodeView) (of : List ℕ) → IsGraph nodes
     → ((v : ℕ) → Contains of v → v < length nodes)
@@ -65,20 +65,21 @@ RulesOfParts = (nodes : List NodeView) (p : List RuleView) (kept : List ℕ) (v 
     → (weights_of (rules_in nodes p kept) (place_in kept v) ≡ weights_of p v)
     × (rule_total (rules_in nodes p kept) (place_in kept v) ≡ rule_total p v)
 
--- the two profiles give each decision's states the same gains and each row the same mass, and each agent the same gain
+-- the two profiles give each decision's states the same gains and each row the same mass, and each
+-- agent the same gain
 pub record HasSameSums (nodes : List NodeView) (s t : List RuleView) : Type 0 where
   pub gain : (d state row : ℕ) → gain_at nodes s d state row ≡ gain_at nodes t d state row
   pub mass_there : (d row : ℕ) → mass_at nodes s d row ≡ mass_at nodes t d row
   pub agents_gain : (agent : ℕ) → gain_of nodes s agent ≡ gain_of nodes t agent
 
--- Sums look at the weights of the decisions' rules alone: so any profile of a part with the base's weights has the
--- base's sums.
+-- Sums look at the weights of the decisions' rules alone: so any profile of a part with the base's
+-- weights has the base's sums.
 abbrev pub SumsReadWeights : Type 0
 SumsReadWeights = (nodes : List NodeView) (s t : List RuleView)
     → ((v : ℕ) → IsDecision nodes v → weights_of s v ≡ weights_of t v) → HasSameSums nodes s t
 
--- In a part with a decision and all utilities of its agent that descend from it, each gain of the decision is that of
--- the whole, but for the totals left out.
+-- In a part with a decision and all utilities of its agent that descend from it, each gain of the
+-- decision is that of the whole, but for the totals left out.
 abbrev pub GainsOfParts : Type 0
 GainsOfParts = (nodes : List NodeView) (p : List RuleView) (kept : List ℕ) (d state row : ℕ)
     → IsGraph nodes → HasChanceTables nodes → IsProfile nodes p → IsAncestral nodes kept
@@ -96,7 +97,8 @@ MassesOfParts = (nodes : List NodeView) (p : List RuleView) (kept : List ℕ) (d
     ≡ pos (mass_left_out nodes p kept)
     *ℤ mass_at (part_of nodes kept) (rules_in nodes p kept) (place_in kept d) row
 
--- In a part with all utilities of an agent, the agent's gain is that of the whole, but for the totals left out.
+-- In a part with all utilities of an agent, the agent's gain is that of the whole, but for the
+-- totals left out.
 abbrev pub AgentsGainsOfParts : Type 0
 AgentsGainsOfParts = (nodes : List NodeView) (p : List RuleView) (kept : List ℕ) (agent : ℕ)
     → IsGraph nodes → HasChanceTables nodes → IsProfile nodes p → IsAncestral nodes kept
@@ -131,9 +133,9 @@ pub record HasAgentsSums
   pub mass_there :
       mass nodes p ≡ mass_left_out nodes p kept * mass (part_of nodes kept) (rules_in nodes p kept)
 
--- The law of parts, for some nodes and all their ancestors: where they have a decision and all utilities of its agent
--- that descend from it, the decision's sums are those of the part, and where they have all utilities of an agent, the
--- agent's are.
+-- The law of parts, for some nodes and all their ancestors: where they have a decision and all
+-- utilities of its agent that descend from it, the decision's sums are those of the part, and where
+-- they have all utilities of an agent, the agent's are.
 abbrev pub LawOfParts : Type 0
 LawOfParts = (nodes : List NodeView) (p : List RuleView) (of : List ℕ) → IsGraph nodes
     → HasChanceTables nodes → IsProfile nodes p → ((v : ℕ) → Contains of v → v < length nodes)
@@ -148,8 +150,8 @@ abbrev pub LeftOutIsPositive : Type 0
 LeftOutIsPositive = (nodes : List NodeView) (p : List RuleView) (kept : List ℕ) → IsGraph nodes
     → HasChanceTables nodes → IsProfile nodes p → 0 < mass_left_out nodes p kept
 
--- a state is as good as another in a row of the whole exactly where it is in the part, the row has mass exactly where
--- it has in the part, and a state is worth the same fraction
+-- a state is as good as another in a row of the whole exactly where it is in the part, the row has
+-- mass exactly where it has in the part, and a state is worth the same fraction
 pub record DecidesAlike
     (nodes : List NodeView) (p : List RuleView) (kept : List ℕ) (d row : ℕ) : Type 0 where
   pub best : (state other : ℕ) → (gain_at nodes p d state row ≤ℤ gain_at nodes p d other row)

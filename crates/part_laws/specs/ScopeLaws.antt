@@ -1,4 +1,5 @@
--- The laws of scopes: all that a decision's or an agent's sums look at, and the room that the bound leaves them.
+-- The laws of scopes: all that a decision's or an agent's sums look at, and the room that the bound
+-- leaves them.
 use Rattle.std.specs.Prelude.{◌≡◌, ◌≢◌, ◌⊎◌, ◌↔◌, ℕ, ◌<◌, ◌≤◌, ◌*◌, ◌^◌, max, List, length, Contains, nat_abs}
 use Rattle.maid_model.specs.declared.diagrams.Kind.TheVariants.{Utility}
 use Rattle.maid_model.specs.Views.{NodeView, DiagramView, RuleView, AnswerView}
@@ -15,8 +16,8 @@ use Rattle.maid_model.specs.Bounds.{KeepsBound}
 use Rattle.maid_model.specs.Parts.{IsAncestral, with_ancestors}
 use Rattle.maid_model.specs.Scopes.{PassesInScope, FailsFirst, FailsFirstFor, IsInScope, scope_of, scope_for, scope_part, place_in_scope, rules_in_scope, scope_part_for, rules_in_scope_for, goals_of, utilities_for, scope_product, scope_product_for, greatest_of, scope_bound, scope_bound_for, KeepsScopedBounds}
 
--- The scope of a decision keeps with each node its parents, and is told by paths. It has the decision and all
--- utilities of its agent that descend from it.
+-- The scope of a decision keeps with each node its parents, and is told by paths. It has the
+-- decision and all utilities of its agent that descend from it.
 abbrev pub ScopesAreParts : Type 0
 ScopesAreParts =
     (nodes : List NodeView) (d : ℕ) → IsGraph nodes → IsDecision nodes d
@@ -37,7 +38,8 @@ abbrev pub ReliesInScope : Type 0
 ReliesInScope =
     (nodes : List NodeView) (d e : ℕ) → IsGraph nodes → ReliesOn nodes d e → IsInScope nodes d e
 
--- the rules of all other decisions add up to no more than the count of states, as pure and uniform ones do
+-- the rules of all other decisions add up to no more than the count of states, as pure and uniform
+-- ones do
 abbrev pub HasSmallRules : List NodeView → List RuleView → ℕ → Type 0
 HasSmallRules nodes p d = (e : ℕ) → IsDecision nodes e → e ≢ d → rule_total p e ≤ states_of nodes e
 
@@ -45,8 +47,8 @@ HasSmallRules nodes p d = (e : ℕ) → IsDecision nodes e → e ≢ d → rule_
 abbrev pub HasUnitRules : List NodeView → List RuleView → Type 0
 HasUnitRules nodes p = (e : ℕ) → IsDecision nodes e → rule_total p e ≡ 1
 
--- P and S of the decision, its gains and masses in the part of its scope, and what the call that sums over the worlds
--- of that part asks for are at most this number
+-- P and S of the decision, its gains and masses in the part of its scope, and what the call that
+-- sums over the worlds of that part asks for are at most this number
 pub record FitsScope (d : DiagramView) (p : List RuleView) (v most : ℕ) : Type 0 where
   pub call : base_mass (scope_part d.nodes v) (rules_in_scope d.nodes p v)
       (place_in_scope d.nodes v)
@@ -84,7 +86,8 @@ abbrev pub AnswersHaveUnitRules : Type 0
 AnswersHaveUnitRules = (nodes : List NodeView) (answers : List AnswerView)
     → HasUnitRules nodes (pure_profile nodes answers)
 
--- The base of a decision in a profile of pure rules has small rules: pure where the decision relies, uniform elsewhere.
+-- The base of a decision in a profile of pure rules has small rules: pure where the decision
+-- relies, uniform elsewhere.
 abbrev pub BasesHaveSmallRules : Type 0
 BasesHaveSmallRules = (nodes : List NodeView) (s base : List RuleView) (d : ℕ) → IsGraph nodes
     → HasUnitRules nodes s → IsBase nodes s d base → HasSmallRules nodes base d
@@ -102,7 +105,8 @@ abbrev pub ScopedBoundsAreWeaker : Type 0
 ScopedBoundsAreWeaker = (d : DiagramView) → IsGraph d.nodes → HasChanceTables d.nodes → KeepsBound d
     → KeepsScopedBounds d
 
--- Either the bounds of all scopes hold, or there is a first that fails, of a decision or else of an agent.
+-- Either the bounds of all scopes hold, or there is a first that fails, of a decision or else of an
+-- agent.
 abbrev pub FirstFailureExists : Type 0
 FirstFailureExists = (d : DiagramView) → KeepsScopedBounds d
     ⊎ (((v : ℕ) × FailsFirst d v) ⊎ ((agent : ℕ) × FailsFirstFor d agent))

@@ -1,5 +1,5 @@
-//! Laws of parts of a diagram and of the scopes of decisions and agents: each is the contract of a function without
-//! parameters and with an empty body.
+//! Laws of parts of a diagram and of the scopes of decisions and agents: each is the contract of a
+//! function without parameters and with an empty body.
 #![tactic(auto)]
 
 mod parts;

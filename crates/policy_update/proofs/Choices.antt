@@ -1,4 +1,5 @@
--- The choice of a row, improved: the walk over the states, row by row, and gains that compare alike.
+-- The choice of a row, improved: the walk over the states, row by row, and gains that compare
+-- alike.
 use Rattle.std.proofs.Common.{◌≡◌, ◌∙◌, ◌⊎◌, ◌↔◌, ℕ, ◌+◌, ◌<◌, List, [], ◌∷◌, ◌++◌, All, None, length, length-append, slice_index_or, refl, sym, ap, subst, inl, inr, arith, pos, ℤ, ◌≤ℤ◌, ◌<ℤ◌}
 use Rattle.std.proofs.lemmas.List.{get_or_append_left}
 use Rattle.std.proofs.lemmas.List.Elements.{All-push}

@@ -1,4 +1,5 @@
--- What is kept of the decisions, place by place, and the totals from one profile of pure rules to the next.
+-- What is kept of the decisions, place by place, and the totals from one profile of pure rules to
+-- the next.
 use Rattle.std.proofs.Common.{◌≡◌, ◌∙◌, ℕ, zero, suc, ◌<◌, List, [], ◌∷◌, Contains, length, get_or, refl, sym, ap, subst, arith}
 use Rattle.std.specs.List.{AllZip}
 use Rattle.std.proofs.lemmas.List.{get_or_default}

@@ -186,7 +186,8 @@ decided_get [] i e l = absurd (omega arith)
 decided_get (a ∷ answers) zero e l = refl
 decided_get (a ∷ answers) (suc i) e l = decided_get answers i e (omega arith)
 
--- there is an answer for each decision, and the one at a place is for the decision that stands there
+-- there is an answer for each decision, and the one at a place is for the decision that stands
+-- there
 pub places : (nodes : List NodeView) (answers : List AnswerView) → AreChoices nodes answers → length answers ≡ length (decisions_of nodes)
 places nodes answers h = sym (length-map answers (λ (a : AnswerView). a.decision)) ∙ ap length h.follow
 

@@ -126,7 +126,8 @@ Takes d before after = (x : ℕ) → IsIn after x ↔ (IsIn before x × (x ≡ d
 still_out : (d : ℕ) (before after : NodeSet) → Takes d before after → (e : ℕ) → e ≢ d → (IsIn after e → ⊥) → IsIn before e → ⊥
 still_out d before after takes e n out h = out ((takes e).1 (h, n))
 
--- what is left unsettled after a step at d: d is taken out, and if the profile changed, those that it affects come in
+-- what is left unsettled after a step at d: d is taken out, and if the profile changed, those that
+-- it affects come in
 module _ (nodes : List NodeView) (p q : List RuleView) (d : ℕ) (hp : IsPure nodes p) (step : IsStep nodes p d q) (alike : (r : List RuleView) → IsPure nodes r → (e : ℕ) → IsDecision nodes e → (row : ℕ) → DecidesAlike nodes r (scope_of nodes e) e row)
     (before after : NodeSet) (settled : AreSettledBut nodes p before) where
   own : (e : ℕ) → e ≡ d → IsStep nodes q e q

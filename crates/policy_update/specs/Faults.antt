@@ -1,5 +1,5 @@
--- What refuses a diagram: the first that applies of a second owner of decisions, the weight bound, too large a run,
--- and rounds that all raise.
+-- What refuses a diagram: the first that applies of a second owner of decisions, the weight bound,
+-- too large a run, and rounds that all raise.
 use Rattle.std.specs.Prelude.{◌≡◌, ◌≢◌, ◌^◌, ℕ, List, Option, Some, None}
 use Rattle.first_fault.specs.Passes.{Pass, ◌▸◌, rule}
 use Rattle.maid_model.specs.declared.answers.Ratio.{Ratio}
@@ -43,7 +43,8 @@ pub record HasTwoOwners (nodes : List NodeView) : Type 0 where
 abbrev pub owners_pass : DiagramView → Pass FaultView
 owners_pass d = rule (HasTwoOwners d.nodes) NotOneAgent
 
--- the weight bound is kept in each scope, or the place of the first that fails is found: a node, or else the utilities
+-- the weight bound is kept in each scope, or the place of the first that fails is found: a node, or
+-- else the utilities
 abbrev pub update_bound_pass : DiagramView → Pass FaultView
 update_bound_pass d None = KeepsScopedBounds d
 update_bound_pass d (Some (WeightBound (Some v))) = IsPassedAt d v
@@ -69,7 +70,8 @@ update_size_pass d None = IsSmallEnoughForUpdate d
 update_size_pass d (Some (TooLarge cells work)) = IsTooLargeForUpdate d cells work
 update_size_pass d (Some fault) = ⊥
 
--- each of the first rounds raises, and after them the owner of all decisions has this expected utility
+-- each of the first rounds raises, and after them the owner of all decisions has this expected
+-- utility
 pub record AllRaise (d : DiagramView) (rounds : ℕ) (gain : Ratio) : Type 0 where
   pub profile : List RuleView
   pub reached : IsReachedAfter d.nodes rounds profile

@@ -18,7 +18,8 @@ use Rattle.policy_update.specs.declared.keeping.Kept.{Kept}
 abbrev pub IsScopeOf : List NodeView → ℕ → NodeSet → Type 0
 IsScopeOf nodes d scope = (v : ℕ) → IsIn scope v ↔ Contains (scope_of nodes d) v
 
--- the decisions in text order, their plans and scopes, and the totals of all nodes in each profile of pure rules
+-- the decisions in text order, their plans and scopes, and the totals of all nodes in each profile
+-- of pure rules
 pub record IsKept (nodes : List NodeView) (kept : Kept) : Type 0 where
   pub decided : kept.decisions.now ≡ decisions_of nodes
   pub planned : ArePlans nodes (decisions_of nodes) kept.plans.now

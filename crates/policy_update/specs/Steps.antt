@@ -68,7 +68,8 @@ ImprovesOrKeeps nodes p a rows =
 abbrev pub IsStepAt : List NodeView → ℕ → List RuleView → List RuleView → Type 0
 IsStepAt nodes place p q = IsStep nodes p (slice_index_or (decisions_of nodes) place 0) q
 
--- each decision outside the set is settled: where it is improved, with all other rules as they stand, it stays
+-- each decision outside the set is settled: where it is improved, with all other rules as they
+-- stand, it stays
 abbrev pub AreSettledBut : List NodeView → List RuleView → NodeSet → Type 0
 AreSettledBut nodes p unsettled =
     (d : ℕ) → IsDecision nodes d → (IsIn unsettled d → ⊥) → IsStep nodes p d p
@@ -99,7 +100,8 @@ abbrev pub EndsAt : List NodeView → ℕ → List RuleView → Option ℕ → T
 EndsAt nodes rounds p None = IsReachedAfter nodes rounds p
 EndsAt nodes rounds p (Some n) = IsSettled nodes rounds p n
 
--- the plans of the decisions in text order and those of the worths, and room for each within the limit
+-- the plans of the decisions in text order and those of the worths, and room for each within the
+-- limit
 pub record IsPlannedRun (nodes : List NodeView) (run : RunPlans) : Type 0 where
   pub plans : ArePlans nodes (decisions_of nodes) run.decisions.items
   pub worths : ArePlansOfWorths nodes run.worths.items

@@ -16,14 +16,15 @@ pub record UpdatedView : Type 0 where
   pub answers : List AnswerView
   pub gains : List Ratio
 
--- the choices before the first round that does not raise, how many rounds came before, and what the choices are worth
--- to each agent
+-- the choices before the first round that does not raise, how many rounds came before, and what the
+-- choices are worth to each agent
 pub record IsUpdateOf (d : DiagramView) (updated : UpdatedView) : Type 0 where
   pub choices : AreChoices d.nodes updated.answers
   pub result : IsUpdated d.nodes updated.rounds (pure_profile d.nodes updated.answers)
   pub gains : HasGains d (pure_profile d.nodes updated.answers) d.agents updated.gains
 
--- no other rule of any one decision, pure or not, gives the decision's agent a greater expected utility
+-- no other rule of any one decision, pure or not, gives the decision's agent a greater expected
+-- utility
 abbrev pub IsLocalOptimum : List NodeView → List RuleView → Type 0
 IsLocalOptimum nodes p =
     (d : ℕ) (t : List RuleView) → IsDecision nodes d → IsProfile nodes t

@@ -15,8 +15,8 @@ use size_precheck::DecisionPlans;
 use std::alloc::{AllocError, Global};
 use weight_scale::decision_scope;
 
-/// What all rounds share, since no rule changes it that is pure: plans and scopes look at the diagram's shape alone, and
-/// the total of a pure rule is 1.
+/// What all rounds share, since no rule changes it that is pure: plans and scopes look at the
+/// diagram's shape alone, and the total of a pure rule is 1.
 #[derive(Drop)]
 pub(crate) struct Kept<'a> {
     /// The decisions in text order.
@@ -68,7 +68,8 @@ impl<'a> Kept<'a> {
         })
     }
 
-    /// Adds the decisions whose scope has this one to the set: what their states gain may look at its rule.
+    /// Adds the decisions whose scope has this one to the set: what their states gain may look at
+    /// its rule.
     pub(crate) fn add_affected(&self, decision: usize, set: &mut NodeSet)
         requires lists { AreDecisionsAndScopes self.now }
         requires decision { decision < MOST_NODES }

@@ -1,5 +1,6 @@
-//! Single policy updating (Lauritzen and Nilsson 2001): the decisions of one agent are improved one by one, round after
-//! round, until a round changes nothing. It needs no order of solving, and ends at a local optimum.
+//! Single policy updating (Lauritzen and Nilsson 2001): the decisions of one agent are improved one
+//! by one, round after round, until a round changes nothing. It needs no order of solving, and ends
+//! at a local optimum.
 #![tactic(auto)]
 
 mod faults;

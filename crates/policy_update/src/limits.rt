@@ -39,8 +39,8 @@ pub(crate) fn keep_bound(diagram: &Diagram) -> Result<(), UpdateFault>
     }
 }
 
-/// The plans of the run over the decisions, and its size. Refuses a diagram in which one of the plans needs too many
-/// cells, or all of them together too much work.
+/// The plans of the run over the decisions, and its size. Refuses a diagram in which one of the
+/// plans needs too many cells, or all of them together too much work.
 pub(crate) fn keep_sizes(
     alloc: Global,
     diagram: &Diagram,

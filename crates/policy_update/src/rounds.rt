@@ -19,8 +19,8 @@ use reach_laws::pure_profiles_listed;
 use rule_solver::{Setting, Workspaces};
 use std::alloc::{AllocError, Global};
 
-/// The rows of the answer at a place in text order, each improved with all other rules as they stand; `None` where all
-/// keep their choices.
+/// The rows of the answer at a place in text order, each improved with all other rules as they
+/// stand; `None` where all keep their choices.
 fn improvement(
     alloc: Global,
     diagram: &Diagram,
@@ -58,8 +58,8 @@ fn improvement(
     Ok(Some(improved_rows(alloc, &gains, states, &answer.rows)?))
 }
 
-/// Improves the decision at a place in text order, with all other rules as they stand, and tells whether a row's choice
-/// changed.
+/// Improves the decision at a place in text order, with all other rules as they stand, and tells
+/// whether a row's choice changed.
 fn improve(
     alloc: Global,
     diagram: &Diagram,
@@ -94,9 +94,9 @@ fn improve(
     }
 }
 
-/// Improves the decision at a place in text order where it isn't settled: where it is, nothing that its gains look at has
-/// changed since it was improved. Tells whether a row's choice changed; then the decisions whose scope has this one are
-/// no longer settled.
+/// Improves the decision at a place in text order where it isn't settled: where it is, nothing that
+/// its gains look at has changed since it was improved. Tells whether a row's choice changed; then
+/// the decisions whose scope has this one are no longer settled.
 fn settle(
     alloc: Global,
     diagram: &Diagram,
@@ -170,7 +170,8 @@ fn go_round(
     Ok(raised)
 }
 
-/// Goes through so many rounds, or to the first that does not raise, and tells how many raised before that one.
+/// Goes through so many rounds, or to the first that does not raise, and tells how many raised
+/// before that one.
 pub(crate) fn go_rounds(
     alloc: Global,
     diagram: &Diagram,

@@ -23,7 +23,8 @@ fn improved(gains: &[i128], choice: usize) -> usize
     best
 }
 
-/// Whether each row keeps its choice: `gains` has a number for each row and state, the state fastest.
+/// Whether each row keeps its choice: `gains` has a number for each row and state, the state
+/// fastest.
 pub(crate) fn keep_choices(gains: &[i128], states: usize, rows: &[Row]) -> bool
     requires all { length gains.now ≡ length rows.now * states }
     requires choices { All (λ r. r.choice < states) rows.now }

@@ -24,8 +24,8 @@ use size_precheck::RunPlans;
 use std::alloc::{AllocError, Global};
 use std::marker::Model;
 
-/// An updated diagram: how many rounds raised, an answer for each decision in text order, each row with its choice and
-/// without a worth, and each agent's expected utility under these choices.
+/// An updated diagram: how many rounds raised, an answer for each decision in text order, each row
+/// with its choice and without a worth, and each agent's expected utility under these choices.
 #[derive(Debug, Drop)]
 pub struct Updated {
     pub rounds: u64,
@@ -52,16 +52,16 @@ fn owner(diagram: &Diagram, decisions: &[usize]) -> usize
     diagram.agent_of(decisions[0])
 }
 
-/// What the rounds come to: how many raised before the first that did not, where one did not, and what the choices are
-/// worth to each agent.
+/// What the rounds come to: how many raised before the first that did not, where one did not, and
+/// what the choices are worth to each agent.
 #[derive(Drop)]
 struct End {
     raised: Option<u64>,
     gains: Vec<Ratio>,
 }
 
-/// Goes through so many rounds by the plans of the run, or to the first that does not raise, and tells how many raised
-/// before that one.
+/// Goes through so many rounds by the plans of the run, or to the first that does not raise, and
+/// tells how many raised before that one.
 fn go_planned(
     alloc: Global,
     diagram: &Diagram,
@@ -88,8 +88,8 @@ fn go_planned(
     go_rounds(alloc, diagram, profile, answers, rounds, &kept, spaces)
 }
 
-/// Goes through so many rounds, or to the first that does not raise, and tells what they come to. The workspaces are
-/// reserved once.
+/// Goes through so many rounds, or to the first that does not raise, and tells what they come to.
+/// The workspaces are reserved once.
 fn go_to_end(
     alloc: Global,
     diagram: &Diagram,
@@ -126,8 +126,8 @@ fn go_to_end(
     Ok(End { raised, gains })
 }
 
-/// The result of updating from the first states of all by the plans of the run, or the expected utility after so many
-/// rounds, each of which raised.
+/// The result of updating from the first states of all by the plans of the run, or the expected
+/// utility after so many rounds, each of which raised.
 fn update_within(
     alloc: Global,
     diagram: &Diagram,
@@ -169,26 +169,29 @@ fn update_within(
     }
 }
 
-/// The result of single policy updating (Lauritzen and Nilsson 2001), for an agent that owns all decisions, whether or not
-/// they rely on one another in a cycle.
+/// The result of single policy updating (Lauritzen and Nilsson 2001), for an agent that owns all
+/// decisions, whether or not they rely on one another in a cycle.
 ///
-/// It starts from the first state everywhere. A round goes through the decisions in text order: against all other choices
-/// as they stand, each row of a decision keeps its choice where no state has a greater gain, and else takes the first
-/// state of greatest gain. A round raises where it changes a choice; the result is what stands before the first round that
-/// does not. No other rule of any one decision is worth more to the agent.
+/// It starts from the first state everywhere. A round goes through the decisions in text order:
+/// against all other choices as they stand, each row of a decision keeps its choice where no state
+/// has a greater gain, and else takes the first state of greatest gain. A round raises where it
+/// changes a choice; the result is what stands before the first round that does not. No other rule
+/// of any one decision is worth more to the agent.
 ///
-/// All plans are made once and kept, with the decisions' scopes and the totals of all nodes, and the workspaces are
-/// reserved once, with room for the most cells of a plan. The first round asks `rule_solver::Setting::row_gains` for each
-/// decision, which runs the plans of the decision's goals; later ones ask only for those in whose scope a choice changed
-/// since they were asked for. A round takes memory for new rows only where a choice changes. At the end
+/// All plans are made once and kept, with the decisions' scopes and the totals of all nodes, and
+/// the workspaces are reserved once, with room for the most cells of a plan. The first round asks
+/// `rule_solver::Setting::row_gains` for each decision, which runs the plans of the decision's
+/// goals; later ones ask only for those in whose scope a choice changed since they were asked for.
+/// A round takes memory for new rows only where a choice changes. At the end
 /// `rule_solver::expected_along` runs the plan of each utility.
 ///
 /// # Errors
 ///
-/// The first of these that holds: `NotOneAgent` where two decisions have different owners, `WeightBound` where a scope
-/// passes the weight bound, `TooLarge` where a plan has more than 4,194,304 cells, or all plans together have more than
-/// 134,217,728 steps of work, each decision's counted once, and `RoundsSpent` where each of the first `rounds` rounds
-/// raises. `NoMemory` may come at any point.
+/// The first of these that holds: `NotOneAgent` where two decisions have different owners,
+/// `WeightBound` where a scope passes the weight bound, `TooLarge` where a plan has more than
+/// 4,194,304 cells, or all plans together have more than 134,217,728 steps of work, each decision's
+/// counted once, and `RoundsSpent` where each of the first `rounds` rounds raises. `NoMemory` may
+/// come at any point.
 pub fn update(alloc: Global, diagram: &Diagram, rounds: u64) -> Result<Updated, UpdateFault>
     requires { 0 < rounds }
     // A result where nothing refuses the diagram, and else the first refusal that applies.

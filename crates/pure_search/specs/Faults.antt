@@ -1,5 +1,5 @@
--- What refuses a diagram: the first that applies of the weight bound, too many profiles or worlds, and no pure
--- equilibrium.
+-- What refuses a diagram: the first that applies of the weight bound, too many profiles or worlds,
+-- and no pure equilibrium.
 use Rattle.std.specs.Prelude.{◌≡◌, ℕ, ◌*◌, ◌≤◌, List, length, Option, Some, None}
 use Rattle.first_fault.specs.Passes.{Pass, ◌▸◌}
 use Rattle.maid_model.specs.declared.limits.TheConstants.{MOST_PROFILES, MOST_LEAVES, MOST_LISTED}
@@ -18,7 +18,8 @@ pure_fault (TooLarge profiles leaves) = Some (TooLarge profiles leaves)
 pure_fault (NoPure profiles) = Some (NoPure profiles)
 pure_fault NoMemory = None
 
--- the weight bound is kept in each scope, or the place of the first that fails is found: a node, or else the utilities
+-- the weight bound is kept in each scope, or the place of the first that fails is found: a node, or
+-- else the utilities
 abbrev pub search_bound_pass : DiagramView → Pass PureFault
 search_bound_pass d None = KeepsScopedBounds d
 search_bound_pass d (Some (WeightBound (Some v))) = IsPassedAt d v

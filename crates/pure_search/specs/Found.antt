@@ -20,8 +20,8 @@ pub record IsFirstStable (nodes : List NodeView) (s : List RuleView) : Type 0 wh
   pub first : IsFirstPure nodes place
   pub stands : slice_index_or (pure_profiles nodes) place [] ≡ s
 
--- Each decision in text order with a choice in each row, and no worths; together the choices are the first pure
--- equilibrium, and the gains are its expected utilities, one for each agent.
+-- Each decision in text order with a choice in each row, and no worths; together the choices are
+-- the first pure equilibrium, and the gains are its expected utilities, one for each agent.
 pub record IsPureFound (d : DiagramView) (found : PureView) : Type 0 where
   pub choices : AreChoices d.nodes found.answers
   pub first : IsFirstStable d.nodes (found_profile d found)

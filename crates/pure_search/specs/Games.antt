@@ -67,7 +67,8 @@ AnswerChoices nodes vs choices answers = answers.items ≡ answers_of nodes vs c
 abbrev pub unless_own : ℕ → ℕ → ℕ → ℕ
 unless_own agent owner choice = if owner == agent then 0 else choice
 
--- the number whose digits are the others' choices, and 0 at the agent's own places; each digit counts up to its count
+-- the number whose digits are the others' choices, and 0 at the agent's own places; each digit
+-- counts up to its count
 abbrev pub key_from : ℕ → ℕ → List ℕ → List ℕ → List ℕ → ℕ
 key_from agent key [] owners choices = key
 key_from agent key (n ∷ counts) [] choices = key
@@ -75,7 +76,8 @@ key_from agent key (n ∷ counts) (owner ∷ owners) [] = key
 key_from agent key (n ∷ counts) (owner ∷ owners) (choice ∷ choices) =
     key_from agent (key * n + unless_own agent owner choice) counts owners choices
 
--- the number of the others' choices in a list of choices: lists that agree for the others have one number
+-- the number of the others' choices in a list of choices: lists that agree for the others have one
+-- number
 abbrev pub key_of : List NodeView → ℕ → List ℕ → ℕ
 key_of nodes agent choices = key_from agent 0 (counts_for nodes) (owners_for nodes) choices
 
@@ -125,7 +127,8 @@ pub record IsSearched (d : DiagramView) : Type 0 where
   pub bound : KeepsScopedBounds d
   pub few : length (choice_lists d.nodes) ≤ MOST_PROFILES
 
--- the list at one place gives the agent the greatest gain of all that agree with it on the others' choices
+-- the list at one place gives the agent the greatest gain of all that agree with it on the others'
+-- choices
 abbrev pub IsBestFor : List NodeView → ℕ → ℕ → Type 0
 IsBestFor nodes agent place = (j : ℕ) → j < length (choice_lists nodes)
     → AgreeForOthers nodes agent (choices_at nodes place) (choices_at nodes j)
@@ -140,7 +143,8 @@ abbrev pub IsGreatest : List ℕ → List ℤ → ℕ → Type 0
 IsGreatest keys gains k = (j : ℕ) → j < length gains → slice_index keys j ≡ slice_index keys k
     → slice_index_or gains j (pos 0) ≤ℤ slice_index_or gains k (pos 0)
 
--- for each key the greatest of the first n entries that have it, or the least number of 128 bits where none has
+-- for each key the greatest of the first n entries that have it, or the least number of 128 bits
+-- where none has
 pub record AreGreatest (keys : List ℕ) (gains : List ℤ) (n : ℕ) (best : List ℤ) : Type 0 where
   pub len : length best ≡ length gains
   pub upper : (j : ℕ) → j < n

@@ -46,7 +46,8 @@ fn is_small(profiles: u128, leaves: u128) -> bool
     profiles <= MOST_PROFILES && leaves <= MOST_LEAVES && profiles * leaves <= MOST_LISTED
 }
 
-/// How many lists of choices there are. Refuses a diagram with too many of them, or too many worlds.
+/// How many lists of choices there are. Refuses a diagram with too many of them, or too many
+/// worlds.
 pub(crate) fn keep_counts(diagram: &Diagram, counts: &[usize]) -> Result<u128, PureFault>
     requires { counts.now ≡ counts_for diagram.now.nodes }
     ensures rows { Passes pure_fault (count_pass diagram.now) result }

@@ -57,7 +57,8 @@ fn rule_taking(
     })
 }
 
-/// Puts the rule that takes these choices in the place of the decision's, where the part has the decision.
+/// Puts the rule that takes these choices in the place of the decision's, where the part has the
+/// decision.
 fn take_choices(
     alloc: Global,
     part: &SubDiagram,
@@ -86,8 +87,8 @@ fn are_same(these: &[usize], those: &[usize]) -> bool
     these == those
 }
 
-/// Takes the sum from one list of choices to another: it puts the rules of those decisions of the part whose choices
-/// differ.
+/// Takes the sum from one list of choices to another: it puts the rules of those decisions of the
+/// part whose choices differ.
 pub(crate) fn follow(
     alloc: Global,
     diagram: &Diagram,

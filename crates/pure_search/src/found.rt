@@ -3,8 +3,8 @@
 use maid_model::{Answer, Ratio};
 use std::marker::Model;
 
-/// A pure profile: an answer for each decision in text order, whose rows say no worth, and each agent's expected utility
-/// under it, in lowest terms.
+/// A pure profile: an answer for each decision in text order, whose rows say no worth, and each
+/// agent's expected utility under it, in lowest terms.
 #[derive(Debug, Drop)]
 pub struct Pure {
     pub answers: Vec<Answer>,

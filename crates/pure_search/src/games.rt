@@ -7,8 +7,8 @@ ghost use Rattle.pure_search.specs.Games.{IsGameOf};
 use maid_model::Diagram;
 use std::alloc::{AllocError, Global};
 
-/// The decisions of a diagram, and for each of their rows, decisions in text order, how many choices there are and whose
-/// the choice is.
+/// The decisions of a diagram, and for each of their rows, decisions in text order, how many
+/// choices there are and whose the choice is.
 #[derive(Drop)]
 pub(crate) struct Game {
     pub decisions: Vec<usize>,

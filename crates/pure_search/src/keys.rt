@@ -12,8 +12,8 @@ fn unless_own(agent: usize, owner: usize, choice: usize) -> usize
     if owner == agent { 0 } else { choice }
 }
 
-/// The number whose digits are the others' choices, and 0 at the agent's own places: lists of choices have the same
-/// number exactly where they agree on the others' choices.
+/// The number whose digits are the others' choices, and 0 at the agent's own places: lists of
+/// choices have the same number exactly where they agree on the others' choices.
 pub(crate) fn key_of(agent: usize, counts: &[usize], owners: &[usize], choices: &[usize]) -> usize
     requires choices { IsWorld counts.now choices.now }
     requires owners { length owners.now ≡ length counts.now }

@@ -1,6 +1,6 @@
-//! The first pure equilibrium of a diagram, whether or not its decisions rely on one another in a cycle: the gains of
-//! all pure profiles stand in a table, and a profile is an equilibrium where each agent's entry is the greatest of those
-//! that agree with it on the others' choices.
+//! The first pure equilibrium of a diagram, whether or not its decisions rely on one another in a
+//! cycle: the gains of all pure profiles stand in a table, and a profile is an equilibrium where
+//! each agent's entry is the greatest of those that agree with it on the others' choices.
 #![tactic(auto)]
 
 mod answering;

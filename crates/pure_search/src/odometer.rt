@@ -16,7 +16,8 @@ pub(crate) fn first_choices(alloc: Global, counts: &[usize]) -> Result<Vec<usize
     Ok(choices)
 }
 
-/// Goes on to the next list of choices, the last place fastest. `false` where this was the last one. It takes no memory.
+/// Goes on to the next list of choices, the last place fastest. `false` where this was the last
+/// one. It takes no memory.
 pub(crate) fn next_choices(counts: &[usize], choices: &mut [usize]) -> bool
     requires { IsWorld counts.now choices.old }
     ensures world { IsWorld counts.now choices.new }

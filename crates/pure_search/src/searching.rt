@@ -49,7 +49,8 @@ fn found_at(alloc: Global, diagram: &Diagram, game: &Game, place: usize) -> Resu
     Ok(Pure { answers, gains })
 }
 
-/// The first pure equilibrium of a diagram within the limits, or that none of its pure profiles is one.
+/// The first pure equilibrium of a diagram within the limits, or that none of its pure profiles is
+/// one.
 fn search(alloc: Global, diagram: &Diagram, game: &Game, profiles: u128) -> Result<Pure, PureFault>
     requires game { IsGameOf diagram.now.nodes game.now }
     requires bound { IsSearched diagram.now }
@@ -75,20 +76,22 @@ fn search_within(alloc: Global, diagram: &Diagram) -> Result<Pure, PureFault>
     search(alloc, diagram, &game, profiles)
 }
 
-/// The first pure equilibrium of a diagram, with or without a relevance cycle: the first list of choices, decisions in
-/// text order and the last row of the last decision fastest, from which no agent gains by other rules of its own, pure or
-/// mixed; and each agent's expected utility under it.
+/// The first pure equilibrium of a diagram, with or without a relevance cycle: the first list of
+/// choices, decisions in text order and the last row of the last decision fastest, from which no
+/// agent gains by other rules of its own, pure or mixed; and each agent's expected utility under
+/// it.
 ///
-/// For each agent that decides it lists the tables of the part that matters to the agent once, and goes once through all
-/// pure profiles; in each through all rows of the decisions, whose rules it exchanges where their choices changed, and by
-/// one walk through those worlds of the part that have weight under the profile. It keeps three numbers and a mark for
-/// each profile.
+/// For each agent that decides it lists the tables of the part that matters to the agent once, and
+/// goes once through all pure profiles; in each through all rows of the decisions, whose rules it
+/// exchanges where their choices changed, and by one walk through those worlds of the part that
+/// have weight under the profile. It keeps three numbers and a mark for each profile.
 ///
 /// # Errors
 ///
-/// The first of these that holds: `WeightBound` where a scope passes the weight bound; `TooLarge` where the pure profiles
-/// are more than 65,536, or the worlds of the diagram more than 1,048,576, or their product more than 16,777,216;
-/// `NoPure` where no pure profile is an equilibrium. `NoMemory` may come at any point.
+/// The first of these that holds: `WeightBound` where a scope passes the weight bound; `TooLarge`
+/// where the pure profiles are more than 65,536, or the worlds of the diagram more than 1,048,576,
+/// or their product more than 16,777,216; `NoPure` where no pure profile is an equilibrium.
+/// `NoMemory` may come at any point.
 pub fn first_pure(alloc: Global, diagram: &Diagram) -> Result<Pure, PureFault>
     // A profile where nothing refuses the diagram, and else the first refusal that applies.
     ensures rows { Passes pure_fault (pure_pass diagram.now) result }

@@ -18,7 +18,8 @@ use maid_model::Diagram;
 use std::alloc::{AllocError, Global};
 use tree_checker::{AgentSum, rules_in_part, utilities_of};
 
-/// For each list of choices, in their order, the number of the others' choices, and what it gives the agent.
+/// For each list of choices, in their order, the number of the others' choices, and what it gives
+/// the agent.
 #[derive(Drop)]
 struct Table {
     keys: Vec<usize>,
@@ -90,7 +91,8 @@ fn add_row(
     Ok(())
 }
 
-/// Appends the rows of the choices and of all lists after them to the table. The choices change on the way.
+/// Appends the rows of the choices and of all lists after them to the table. The choices change on
+/// the way.
 fn add_rows(
     alloc: Global,
     diagram: &Diagram,
@@ -153,7 +155,8 @@ fn table_for(
     Ok(table)
 }
 
-/// Takes the marks from the lists of choices that are not best for the agent. All are best for one that has no choice.
+/// Takes the marks from the lists of choices that are not best for the agent. All are best for one
+/// that has no choice.
 fn keep_best(
     alloc: Global,
     diagram: &Diagram,

@@ -1,4 +1,5 @@
--- Where a chance node has become a decision, all is kept that searches for the other decisions look at.
+-- Where a chance node has become a decision, all is kept that searches for the other decisions look
+-- at.
 use Rattle.std.proofs.Common.{◌≡◌, ◌≢◌, ◌∙◌, ◌⊎◌, ℕ, ◌<◌, List, ◌∷◌, sym, ap, subst, inl, inr}
 use Rattle.std.proofs.Math.Path.{fun_ext}
 use Rattle.std.specs.Prelude.{Contains}

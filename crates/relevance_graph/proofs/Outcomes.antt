@@ -1,4 +1,5 @@
--- Placing by the lists of what each decision relies on is the order of solving, or the relevance cycle.
+-- Placing by the lists of what each decision relies on is the order of solving, or the relevance
+-- cycle.
 use Rattle.std.proofs.Common.{◌≡◌, ℕ, ◌<◌, ◌≤◌, Bool, List, [], length, take, get_or, ◌↔◌, inl, inr, subst, sym, ◌∙◌, arith}
 use Rattle.std.specs.Prelude.{Contains}
 use Rattle.std.proofs.lemmas.Bool.{cases_lt}

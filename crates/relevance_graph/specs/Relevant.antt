@@ -9,7 +9,8 @@ use Rattle.diagram_graph.specs.Needs.{IsMarkedIn}
 use Rattle.diagram_graph.specs.Rounds.{IsRingOfNeeds}
 use Rattle.relevance_graph.specs.Views.{RelevanceView, ReliesTo, IsRising, relied_on_by}
 
--- the relevance cycle: a ring of decisions each of which relies on the next, so that no order of solving has them all
+-- the relevance cycle: a ring of decisions each of which relies on the next, so that no order of
+-- solving has them all
 pub record IsBlockedBy (nodes : List NodeView) (cycle : List ℕ) : Type 0 where
   pub is_cycle : IsRelianceCycle nodes cycle
   pub ring : IsRingOfNeeds (ReliesOn nodes) cycle
@@ -29,8 +30,9 @@ TellsOutcome view told = MatchResult told (λ order. view.outcome ≡ Ok order.n
 abbrev pub MarksDecisions : List NodeView → List Bool → Type 0
 MarksDecisions nodes marks = (v : ℕ) → IsMarkedIn marks v ↔ IsDecision nodes v
 
--- the relevance graph of a diagram: it tells of each pair of numbers whether the one relies on the other, lists those on
--- which a decision relies in text order, and has the order of solving or the relevance cycle
+-- the relevance graph of a diagram: it tells of each pair of numbers whether the one relies on the
+-- other, lists those on which a decision relies in text order, and has the order of solving or the
+-- relevance cycle
 pub record IsRelevance (nodes : List NodeView) (view : RelevanceView) : Type 0 where
   pub count : length view.relied_on ≡ length nodes
   pub pairs : (d e : ℕ) → ReliesTo view d e ↔ ReliesOn nodes d e

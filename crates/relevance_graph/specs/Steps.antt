@@ -1,5 +1,5 @@
--- What the steps of finding a relevance graph promise one another. Only private functions, the invariant of private
--- fields and what is kept of a search cite this file.
+-- What the steps of finding a relevance graph promise one another. Only private functions, the
+-- invariant of private fields and what is kept of a search cite this file.
 use Rattle.std.specs.Prelude.{◌≡◌, ◌↔◌, ◌<◌, ℕ, List, length, Contains}
 use Rattle.maid_model.specs.Views.{NodeView}
 use Rattle.maid_model.specs.Nodes.{IsDecision}

@@ -37,8 +37,8 @@ impl Model for Relevance {
 }
 
 impl Relevance {
-    /// Whether the one node relies on the other: it doesn't where either is no decision of two states or more. It takes
-    /// no memory, and searches what the decision relies on by halves.
+    /// Whether the one node relies on the other: it doesn't where either is no decision of two
+    /// states or more. It takes no memory, and searches what the decision relies on by halves.
     pub fn relies(&self, decision: usize, on: usize) -> bool
         requires { decision < length self.now.relied_on }
         ensures { IsTrue result ↔ ReliesTo self.now decision on }
@@ -54,10 +54,11 @@ impl Relevance {
         &self.relied_on[decision]
     }
 
-    /// The order of solving: each time the first decision in text, all of whose relied-on decisions stand before it. An
-    /// `Err` has the relevance cycle where there is no such order of all decisions: from the first decision that can't
-    /// be placed it goes each time to the first such decision on which the last one relies, until one comes twice, and
-    /// it is the list from the first visit of that one. It takes no memory.
+    /// The order of solving: each time the first decision in text, all of whose relied-on decisions
+    /// stand before it. An `Err` has the relevance cycle where there is no such order of all
+    /// decisions: from the first decision that can't be placed it goes each time to the first such
+    /// decision on which the last one relies, until one comes twice, and it is the list from the
+    /// first visit of that one. It takes no memory.
     pub fn order(&self) -> Result<&[usize], &[usize]>
         ensures { TellsOutcome self.now result }
     {
@@ -68,9 +69,10 @@ impl Relevance {
     }
 }
 
-/// The relevance graph of the diagram. It searches once for each decision of two states or more, from all utilities of
-/// its agent that descend from it, which looks at each node a few times: decisions times nodes in all, and for the order
-/// or the cycle at most as many looks as there are nodes times pairs of which one relies on the other.
+/// The relevance graph of the diagram. It searches once for each decision of two states or more,
+/// from all utilities of its agent that descend from it, which looks at each node a few times:
+/// decisions times nodes in all, and for the order or the cycle at most as many looks as there are
+/// nodes times pairs of which one relies on the other.
 ///
 /// # Errors
 ///
@@ -81,8 +83,8 @@ pub fn find_relevance(alloc: Global, diagram: &Diagram) -> Result<Relevance, All
     find_relevance_with(alloc, diagram, &[])
 }
 
-/// The same where searches are kept: it searches for no decision of which one is. Each decision is looked for among what
-/// is kept.
+/// The same where searches are kept: it searches for no decision of which one is. Each decision is
+/// looked for among what is kept.
 ///
 /// # Errors
 ///

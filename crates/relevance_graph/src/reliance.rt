@@ -55,7 +55,8 @@ fn list_relied_on(
     Ok(list)
 }
 
-/// What the node relies on, by one search where it is a decision of two states or more, unless that is kept.
+/// What the node relies on, by one search where it is a decision of two states or more, unless that
+/// is kept.
 fn relied_on_by(
     alloc: Global,
     diagram: &Diagram,

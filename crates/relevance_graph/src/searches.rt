@@ -9,15 +9,16 @@ use bayes_ball::{Marks, reach_from_goals};
 use maid_model::Diagram;
 use std::alloc::{AllocError, Global};
 
-/// A decision, and what the search from its goals marked. It is also that of a diagram in which other nodes have become
-/// decisions, as `kept_searches_stand` says.
+/// A decision, and what the search from its goals marked. It is also that of a diagram in which
+/// other nodes have become decisions, as `kept_searches_stand` says.
 #[derive(Clone, Copy, Debug)]
 pub struct KeptSearch {
     pub decision: usize,
     pub(crate) marks: Marks,
 }
 
-/// The searches for the decisions of the diagram, in text order, to be kept for later. It searches once for each.
+/// The searches for the decisions of the diagram, in text order, to be kept for later. It searches
+/// once for each.
 ///
 /// # Errors
 ///

@@ -1,4 +1,5 @@
--- What the answer says whether a list is empty, whether it has a number, and whether a node is a decision.
+-- What the answer says whether a list is empty, whether it has a number, and whether a node is a
+-- decision.
 use Rattle.std.proofs.Common.{◌≡◌, ◌≢◌, ℕ, ◌<◌, nat_eq, eqb, true, false, List, [], ◌∷◌, length, Contains, refl, ap, ◌∙◌, arith}
 use Rattle.std.specs.List.{IsAnyAnswer}
 use Rattle.std.proofs.lemmas.List.{nil_from_length}

@@ -1,4 +1,5 @@
--- A line at which the text stops is its bad line: the lines before it go on to a report, and with it they go on to none.
+-- A line at which the text stops is its bad line: the lines before it go on to a report, and with
+-- it they go on to none.
 use Rattle.std.proofs.Common.{◌≡◌, ◌≢◌, ◌⊎◌, ℕ, zero, suc, ◌+◌, ◌-◌, ◌<◌, List, [], ◌∷◌, ◌++◌, length, take, Bool, true, false, cond, inl, inr, refl, sym, ◌∙◌, ap, subst, arith}
 use Rattle.std.specs.Prelude.{All, Contains, codes, pos, None}
 use Rattle.std.specs.List.{flat_map}

@@ -1,4 +1,5 @@
--- A fraction's text falls into a numerator without a slash and what is written behind it, so it is the text of one fraction.
+-- A fraction's text falls into a numerator without a slash and what is written behind it, so it is
+-- the text of one fraction.
 use Rattle.std.proofs.Common.{◌≡◌, ℕ, ◌-◌, ◌<◌, ◌≤◌, ◌^◌, List, [], ◌∷◌, length, take, drop, Bool, true, false, Option, None, Some, cond, eqb, refl, sym, ◌∙◌, ap, subst, arith, tests}
 use Rattle.std.specs.Prelude.{decimal, IfNone, IsTrue, unsigned_abs}
 use Rattle.std.specs.Fmt.{signed_decimal}

@@ -1,4 +1,5 @@
--- The words of the order's line, one by one: what was read is the front of every order that the line may show.
+-- The words of the order's line, one by one: what was read is the front of every order that the
+-- line may show.
 use Rattle.std.proofs.Common.{◌≡◌, ◌≢◌, ◌⊎◌, ℕ, zero, suc, ◌<◌, List, [], ◌∷◌, ◌++◌, map, length, true, inl, inr, refl, sym, ◌∙◌, ap, subst, arith, append_assoc}
 use Rattle.std.specs.Prelude.{All, Contains, codes}
 use Rattle.std.proofs.lemmas.List.{append-nil}

@@ -1,4 +1,5 @@
--- Where the first line stands that shows nothing: the lines before it go on to a whole report, and with it they go on to none.
+-- Where the first line stands that shows nothing: the lines before it go on to a whole report, and
+-- with it they go on to none.
 use Rattle.std.proofs.Common.{◌≡◌, ℕ, zero, suc, ◌+◌, List, [], ◌∷◌, ◌++◌, take, inl, inr, refl, ap, subst, arith}
 use Rattle.maid_model.specs.Views.{NodeView}
 use Rattle.maid_model.specs.Names.{NamesView}

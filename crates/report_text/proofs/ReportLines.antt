@@ -1,4 +1,5 @@
--- A report as a list of lines, each of which may stand at its place; and lines at all places are a report's.
+-- A report as a list of lines, each of which may stand at its place; and lines at all places are a
+-- report's.
 use Rattle.std.proofs.Common.{◌≡◌, ℕ, zero, suc, ◌+◌, List, [], ◌∷◌, ◌++◌, map, length, true, refl, sym, ◌∙◌, ap, subst, append_assoc}
 use Rattle.std.specs.Prelude.{All, codes}
 use Rattle.std.specs.List.{flat_map}

@@ -1,4 +1,5 @@
--- The lines of the rows under one choice of the first parents' states, put together from those under each state of the next parent.
+-- The lines of the rows under one choice of the first parents' states, put together from those
+-- under each state of the next parent.
 use Rattle.std.proofs.Common.{◌≡◌, ◌∙◌, ℕ, zero, suc, ◌+◌, ◌*◌, ◌<◌, ◌≤◌, List, [], ◌∷◌, ◌++◌, length, drop, slice_index_or, refl, sym, ap, append_assoc, add-one, drop-cons, arith}
 use Rattle.std.proofs.lemmas.List.{append-nil, drop_all}
 use Rattle.std.proofs.lemmas.Nat.{div-mul-add, mod-mul-add}

@@ -1,4 +1,5 @@
--- What the steps of printing append: each says what stands behind the text once its call has ended well.
+-- What the steps of printing append: each says what stands behind the text once its call has ended
+-- well.
 use Rattle.std.specs.Prelude.{ℕ, List, Result}
 use Rattle.std.specs.Global.{Vec}
 use Rattle.std.specs.List.{flat_map}

@@ -17,7 +17,8 @@ use Rattle.report_text.specs.declared.reading.ReportFault.TheVariants.{BadLine, 
 abbrev pub IsOneWord : List ℕ → Type 0
 IsOneWord bytes = All (λ byte. (byte ≢ 10) × (byte ≢ 32)) bytes
 
--- names that a report tells apart: the nodes' differ and are words, and no label and no agent has a line's end
+-- names that a report tells apart: the nodes' differ and are words, and no label and no agent has a
+-- line's end
 pub record AreTold (names : NamesView) : Type 0 where
   pub differ : AllPairs (λ name later. name ≢ later) names.nodes
   pub words : All IsOneWord names.nodes
@@ -52,13 +53,14 @@ lines_of [] = []
 lines_of (byte ∷ bytes) =
     if byte == 10 then (10 ∷ []) ∷ lines_of bytes else onto_first byte (lines_of bytes)
 
--- some report of the diagram has the text's first n lines, and no further one among its first n where the text has none
+-- some report of the diagram has the text's first n lines, and no further one among its first n
+-- where the text has none
 abbrev pub BeginsReport : DiagramView → NamesView → List ℕ → ℕ → Type 0
 BeginsReport d names text n = (solved : SolvedView) × CanStand d solved
     × (take n (lines_of text) ≡ take n (lines_of (report d names solved)))
 
--- the least line, counted from 1, up to and with which no report has the text's lines; behind the last line where the
--- text ends too early
+-- the least line, counted from 1, up to and with which no report has the text's lines; behind the
+-- last line where the text ends too early
 pub record IsBadLine (d : DiagramView) (names : NamesView) (text : List ℕ) (line : ℕ) : Type 0 where
   pub before : BeginsReport d names text (line - 1)
   pub none : BeginsReport d names text line → ⊥

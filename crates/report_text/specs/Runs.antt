@@ -16,8 +16,8 @@ abbrev pub labelled_line : NamesView → ℕ → List ℕ → ℕ → Row → Li
 labelled_line names d labels number row =
     line (codes "row " ++ decimal (number + 1) ++ codes ":" ++ labels ++ choice_text names d row)
 
--- so many rows from `at` on, of which the first of all has the number `first`: each has these labels, and then those
--- of the other parents' states
+-- so many rows from `at` on, of which the first of all has the number `first`: each has these
+-- labels, and then those of the other parents' states
 abbrev pub run_lines :
     List NodeView → NamesView → AnswerView → List ℕ → List ℕ → ℕ → ℕ → ℕ → List ℕ
 run_lines nodes names answer labels others first at zero = []

@@ -1,5 +1,5 @@
--- What each line of a report may show, and at which line a text stops to be one: the words of the reading, line by
--- line.
+-- What each line of a report may show, and at which line a text stops to be one: the words of the
+-- reading, line by line.
 use Rattle.std.specs.Prelude.{◌≡◌, ◌≢◌, ◌⊎◌, ℕ, zero, suc, ◌+◌, ◌<◌, List, [], ◌∷◌, ◌++◌, Option, IfSome, map, length, codes, decimal, ◌==◌, if◌then◌else◌, Bool, true, not, All, Contains}
 use Rattle.std.specs.List.{flat_map, list_all}
 use Rattle.std.specs.Option.{MatchOption}
@@ -131,7 +131,8 @@ abbrev pub IsShownChoice : ℕ → List ℕ → ℕ → Type 0
 IsShownChoice states bytes choice = (other : ℕ) (rest : List ℕ) → other < states
     → bytes ≡ decimal (other + 1) ++ 32 ∷ rest → choice ≡ other
 
--- a place for a line: this very line, the line of a decision's row, an agent's line, or the text's end
+-- a place for a line: this very line, the line of a decision's row, an agent's line, or the text's
+-- end
 pub data Slot : Type 0 where
   Told : List ℕ → Slot
   OfRow : ℕ → ℕ → Slot
@@ -183,7 +184,8 @@ lines_behind nodes names solved =
 abbrev pub ShowsSolved : DiagramView → NamesView → List ℕ → SolvedView → Type 0
 ShowsSolved d names bytes solved = bytes ≡ lines_behind d.nodes names solved
 
--- the line of that number, where so many were read before, is the first that may not stand at its place
+-- the line of that number, where so many were read before, is the first that may not stand at its
+-- place
 abbrev pub StopsIn : List NodeView → NamesView → List Slot → List (List ℕ) → ℕ → ℕ → Type 0
 StopsIn nodes names [] lines read number = ⊥
 StopsIn nodes names (slot ∷ slots) [] read number =

@@ -1,5 +1,5 @@
-//! The report of an answered diagram, printed and read. A report is one text for one value: what is printed reads back
-//! as the value, and what is read prints as the text.
+//! The report of an answered diagram, printed and read. A report is one text for one value: what is
+//! printed reads back as the value, and what is read prints as the text.
 #![tactic(auto)]
 
 mod cuts;

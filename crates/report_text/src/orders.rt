@@ -36,7 +36,8 @@ fn has_all(diagram: &Diagram, order: &[usize]) -> bool
     true
 }
 
-/// The order that the line shows, if it shows one: each decision once. Each name is searched among the nodes'.
+/// The order that the line shows, if it shows one: each decision once. Each name is searched among
+/// the nodes'.
 pub(crate) fn read_order(
     alloc: Global,
     diagram: &Diagram,

@@ -14,8 +14,8 @@ use thiserror::Error;
 /// Why a text was not read as a report.
 #[derive(Clone, Copy, Debug, PartialEq, Eq, Error)]
 pub enum ReportFault {
-    /// No report of the diagram has the text's lines up to and with this one, counted from 1. Where the text ends too
-    /// early it is the number after its last line.
+    /// No report of the diagram has the text's lines up to and with this one, counted from 1. Where
+    /// the text ends too early it is the number after its last line.
     #[error("bad line {line}")]
     BadLine { line: usize },
     /// Memory ran out, which says nothing of the text.
@@ -73,14 +73,14 @@ fn read_behind(
 
 /// The value whose report the text is, byte for byte.
 ///
-/// It goes over the text once and prints each line anew to compare, so the cost is that of the text and of a search among
-/// the names for each decision of the order.
+/// It goes over the text once and prints each line anew to compare, so the cost is that of the text
+/// and of a search among the names for each decision of the order.
 ///
 /// # Errors
 ///
-/// `BadLine` where the text is no report of the diagram: the least line, counted from 1, up to and with which no report
-/// has the text's lines, or the number after the last line where the text ends too early. `NoMemory` may come at any
-/// point.
+/// `BadLine` where the text is no report of the diagram: the least line, counted from 1, up to and
+/// with which no report has the text's lines, or the number after the last line where the text ends
+/// too early. `NoMemory` may come at any point.
 pub fn read_report(
     alloc: Global,
     diagram: &Diagram,

@@ -53,7 +53,8 @@ pub(crate) fn push_label(
     push_quoted(out, names.label(node, state))
 }
 
-// Appends the labels of the parents' states in the row, the first parent slowest. `rows` counts the rows.
+// Appends the labels of the parents' states in the row, the first parent slowest. `rows` counts the
+// rows.
 fn push_states(
     out: &mut Vec<u8>,
     diagram: &Diagram,
@@ -105,7 +106,8 @@ pub fn push_state(
     push_label(out, diagram, names, decision, choice)
 }
 
-/// Appends the line of one row up to its choice. Rows are numbered from 0 here and from 1 in the text.
+/// Appends the line of one row up to its choice. Rows are numbered from 0 here and from 1 in the
+/// text.
 #[tactic(auto, using(std::proofs::Common::append_assoc))]
 pub fn push_row_front(
     out: &mut Vec<u8>,
@@ -283,8 +285,9 @@ fn push_order(out: &mut Vec<u8>, names: &Names, order: &[usize]) -> Result<(), A
     out.extend_from_slice(b"\n")
 }
 
-/// The report of the answered diagram: the order of solving, for each decision in that order a line for each choice of
-/// its parents' states, and what the plan is worth to each agent. Its cost is that of the text it makes.
+/// The report of the answered diagram: the order of solving, for each decision in that order a line
+/// for each choice of its parents' states, and what the plan is worth to each agent. Its cost is
+/// that of the text it makes.
 #[tactic(auto, using(std::proofs::Common::append_assoc))]
 pub fn print_report(
     alloc: Global,

@@ -1,5 +1,5 @@
-//! The lines of a decision's rows, in one walk over the choices of its parents' states: the labels of the parents whose
-//! states stay from row to row are written once.
+//! The lines of a decision's rows, in one walk over the choices of its parents' states: the labels
+//! of the parents whose states stay from row to row are written once.
 
 ghost use Rattle.std.specs.Prelude.{◌≡◌, ◌<◌, All, IfOk, OnOk, drop, length};
 ghost use Rattle.maid_model.specs.Answers.{FitsAnswer};
@@ -22,8 +22,8 @@ struct Sheet<'a> {
     answer: &'a Answer,
 }
 
-/// Appends the line of one row whose parents' states have these labels. Rows are numbered from 0 here and from 1 in the
-/// text.
+/// Appends the line of one row whose parents' states have these labels. Rows are numbered from 0
+/// here and from 1 in the text.
 fn push_labelled(
     out: &mut Vec<u8>,
     labels: &[u8],
@@ -61,9 +61,10 @@ fn behind_first(list: &[usize]) -> &[usize]
     list.split_at(1).1
 }
 
-/// Appends the lines of the rows under one choice of the first parents' states, which have these labels: a line for
-/// each choice of the other parents' states, the first of these slowest. `first` is the number of the first row. Gives
-/// the number behind the last one. The labels are left as they were.
+/// Appends the lines of the rows under one choice of the first parents' states, which have these
+/// labels: a line for each choice of the other parents' states, the first of these slowest. `first`
+/// is the number of the first row. Gives the number behind the last one. The labels are left as
+/// they were.
 fn push_run(
     out: &mut Vec<u8>,
     labels: &mut Vec<u8>,
@@ -99,8 +100,8 @@ fn push_run(
     Ok(next)
 }
 
-/// Appends a line for each row of an answered decision. `labels` is room for the labels of the row at hand: what it held
-/// is lost.
+/// Appends a line for each row of an answered decision. `labels` is room for the labels of the row
+/// at hand: what it held is lost.
 pub(crate) fn push_rows(
     out: &mut Vec<u8>,
     labels: &mut Vec<u8>,

@@ -38,7 +38,8 @@ fn read_state(bytes: &[u8], states: usize) -> Option<usize>
     }
 }
 
-/// The row that the line shows, if it shows one. Rows are numbered from 0 here and from 1 in the text.
+/// The row that the line shows, if it shows one. Rows are numbered from 0 here and from 1 in the
+/// text.
 pub(crate) fn read_row(
     scratch: &mut Vec<u8>,
     diagram: &Diagram,

@@ -1,4 +1,5 @@
--- One more arc into a decision makes no new walk from its tail: given the decision and its other parents, a walk that takes the arc comes back to the tail or is blocked.
+-- One more arc into a decision makes no new walk from its tail: given the decision and its other
+-- parents, a walk that takes the arc comes back to the tail or is blocked.
 use Rattle.std.proofs.Common.{◌≡◌, ◌≢◌, ◌⊎◌, ◌↔◌, ◌∙◌, ℕ, List, [], ◌∷◌, inl, inr, refl, sym, ap, subst}
 use Rattle.std.proofs.Math.Decide.{ℕ_discrete}
 use Rattle.maid_model.specs.Relevance.{IsInFamilyBut}

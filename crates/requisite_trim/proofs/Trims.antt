@@ -9,7 +9,8 @@ use Rattle.maid_model.specs.Trimming.{IsTrimmed, Done, Removed, SeesRequisites, 
 use Rattle.requisite_trim.specs.Trims.{but_parents, LosesArcs}
 use Rattle.requisite_trim.proofs.Losing.{loses_arc}
 
--- these arcs, one after another, are what trimming removes of the one diagram until the other is left: whatever it removes of that, it removes then
+-- these arcs, one after another, are what trimming removes of the one diagram until the other is
+-- left: whatever it removes of that, it removes then
 pub record Leads (nodes : List NodeView) (removed : List (ℕ × ℕ)) (now : List NodeView) : Type 0 where
   pub on : (rest : List (ℕ × ℕ)) (trimmed : List NodeView) → IsTrimmed now rest trimmed → IsTrimmed nodes (removed ++ rest) trimmed
 

@@ -1,4 +1,5 @@
--- A node that a decision does not see would be requisite, if the decision saw it, exactly where the graph as it is says so.
+-- A node that a decision does not see would be requisite, if the decision saw it, exactly where the
+-- graph as it is says so.
 use Rattle.std.proofs.Common.{◌≡◌, ◌≢◌, ◌⊎◌, ◌↔◌, ◌∙◌, ℕ, ◌<◌, List, [], ◌∷◌, ◌++◌, length, inl, inr, refl, sym, ap, subst}
 use Rattle.std.proofs.lemmas.List.{get_or-set_same, get_or-set_other, length-set}
 use Rattle.std.proofs.lemmas.List.Elements.{Contains-append_left, Contains-push_cases}

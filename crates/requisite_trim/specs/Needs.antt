@@ -11,8 +11,8 @@ use Rattle.requisite_trim.specs.declared.requisite_nodes.RequisiteNodes.{Requisi
 abbrev pub HasNode : RequisiteNodes → ℕ → Type 0
 HasNode found x = IsIn found.marks.reached x
 
--- Of d's parents those that are requisite are found. Another node, which does not descend from d, is found exactly
--- where it is a requisite parent of d in the diagram with the arc.
+-- Of d's parents those that are requisite are found. Another node, which does not descend from d,
+-- is found exactly where it is a requisite parent of d in the diagram with the arc.
 pub record TellsNeeds (nodes : List NodeView) (d : ℕ) (found : RequisiteNodes) : Type 0 where
   pub seen : (x : ℕ) → Arc nodes x d → HasNode found x ↔ IsRequisite nodes d x
   pub unseen : (x : ℕ) → x < length nodes → (IsPath (Arc nodes) d x → ⊥)

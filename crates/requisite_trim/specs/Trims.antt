@@ -27,8 +27,9 @@ pub record LosesArcs (before after : List NodeView) : Type 0 where
   pub others :
       (v : ℕ) → (node_at before v).kind ≢ Decision → parents_of after v ≡ parents_of before v
 
--- The first arc that is not requisite is removed, anew after each removal and in this order, until every arc into a
--- decision is requisite; all else is the same. Where one agent owns all decisions, the optimum is the same too.
+-- The first arc that is not requisite is removed, anew after each removal and in this order, until
+-- every arc into a decision is requisite; all else is the same. Where one agent owns all decisions,
+-- the optimum is the same too.
 pub record IsTrimming (before after : DiagramView) (removed : List (ℕ × ℕ)) : Type 0 where
   pub trimmed : IsTrimmed before.nodes removed after.nodes
   pub diagram : IsDiagram after

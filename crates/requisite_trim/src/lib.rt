@@ -1,5 +1,5 @@
-//! Arcs that a decision does not need (Lauritzen and Nilsson 2001): which parents of a decision are requisite, which
-//! other nodes would be, and the diagram without the arcs from those that are not.
+//! Arcs that a decision does not need (Lauritzen and Nilsson 2001): which parents of a decision are
+//! requisite, which other nodes would be, and the diagram without the arcs from those that are not.
 #![tactic(auto)]
 
 mod looks;

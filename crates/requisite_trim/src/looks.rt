@@ -7,8 +7,8 @@ ghost use Rattle.requisite_trim.specs.Steps.{TellsFirstUnneeded, TellsFirstUnnee
 use bayes_ball::{all_reach_goals, reach_from_goals};
 use maid_model::Diagram;
 
-/// The first parent of the decision that is not requisite. It searches from all goals only where there is one, and not at
-/// all where there are no parents.
+/// The first parent of the decision that is not requisite. It searches from all goals only where
+/// there is one, and not at all where there are no parents.
 fn first_unneeded(diagram: &Diagram, decision: usize) -> Option<usize>
     requires { IsDecision diagram.now.nodes decision }
     ensures { TellsFirstUnneeded diagram.now.nodes decision result }
@@ -41,7 +41,8 @@ fn first_unneeded_at(diagram: &Diagram, v: usize) -> Option<usize>
     }
 }
 
-/// The first arc that is not requisite, in text order of decisions and then in the order of the decision's parents.
+/// The first arc that is not requisite, in text order of decisions and then in the order of the
+/// decision's parents.
 pub(crate) fn first_to_remove(diagram: &Diagram) -> Option<(usize, usize)>
     ensures { TellsNextArc diagram.now.nodes result }
 {

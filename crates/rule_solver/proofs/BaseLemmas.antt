@@ -27,7 +27,8 @@ fits_at nodes answers i a all h e = subst (FitsAnswer nodes) e (all i a h)
 pub same_then : (p q r : List RuleView) (v : ℕ) → SameRule p q v → SameRule q r v → SameRule p r v
 same_then p q r v a b = record { weights = a.weights ∙ b.weights; total = a.total ∙ b.total }
 
--- the base has the answered rules at those of the first n answered decisions that d relies on, and uniform rules elsewhere
+-- the base has the answered rules at those of the first n answered decisions that d relies on, and
+-- uniform rules elsewhere
 pub record BaseSoFar (nodes : List NodeView) (answers : List AnswerView) (d n : ℕ) (base : List RuleView) : Type 0 where
   pub profile : IsProfile nodes base
   pub room : KeepsStates nodes base

@@ -36,7 +36,8 @@ more_if a b x y from less = go (either a b)
     go (inl h) = absurd (clash x y less (from h))
     go (inr h) = h
 
--- a row answered by its gains and mass in the part of the scope is answered in the whole, where both decide alike
+-- a row answered by its gains and mass in the part of the scope is answered in the whole, where
+-- both decide alike
 answer_row_is : (nodes : List NodeView) (decimals : ℕ) (base : List RuleView) (d row mass : ℕ) (r : Row) → DecidesAlike nodes base (scope_of nodes d) d row → pos mass ≡ scope_mass nodes base d row
     → AnswersRow (λ s. scope_gain nodes base d s row) (states_of nodes d) mass (10 ^ decimals) r → IsAnswerRow nodes decimals base d row r
 answer_row_is nodes decimals base d row mass r alike e a = record {

@@ -1,4 +1,5 @@
--- The nodes of a decision's joint sums: those with their own tables, and those that the goals' plans eliminate.
+-- The nodes of a decision's joint sums: those with their own tables, and those that the goals'
+-- plans eliminate.
 use Rattle.std.proofs.Common.{◌≡◌, ◌≢◌, ◌∙◌, ◌⊎◌, ◌↔◌, inl, inr, ℕ, ◌<◌, ◌≤◌, Bool, true, false, not, ◌&&◌, eqb, filter, Contains, List, [], ◌∷◌, map, length, get_or, slice_index, refl, sym, ap, subst, arith, le_trans}
 use Rattle.std.specs.List.{AllZip}
 use Rattle.std.proofs.lemmas.List.{get_or_default}

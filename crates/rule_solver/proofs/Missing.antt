@@ -1,4 +1,5 @@
--- Totals multiplied over sets: those that a plan lacks of a scope's nodes, and those of a whole scope.
+-- Totals multiplied over sets: those that a plan lacks of a scope's nodes, and those of a whole
+-- scope.
 use Rattle.std.proofs.Common.{◌≡◌, ◌∙◌, ◌↔◌, ℕ, ◌<◌, Bool, true, false, not, cond, eqb, filter, List, Contains, length, slice_index, refl, sym, ap, subst, arith}
 use Rattle.std.specs.List.{range_with_len}
 use Rattle.std.specs.Prelude.{option_to_list}

@@ -1,4 +1,5 @@
--- Plans that are counted together each have at most the cells of their size, and so a run has room in them.
+-- Plans that are counted together each have at most the cells of their size, and so a run has room
+-- in them.
 use Rattle.std.proofs.Common.{◌≡◌, ◌∙◌, ◌&&◌, ℕ, zero, suc, ◌≤◌, max, List, [], ◌∷◌, ◌++◌, Contains, map, sym, ap, subst, inl, inr, arith}
 use Rattle.std.specs.Prelude.{flat_map}
 use Rattle.std.specs.List.{AllZip}
@@ -29,7 +30,8 @@ lists_decisions nodes order is = record {
   all = λ v. ((λ c. subst (IsDecision nodes) (get_or_default order c.0 0 v c.1 ∙ c.2) (placed_decision nodes order is c.0 c.1)), is.complete v);
 }
 
--- a diagram has one order of solving and a run one size, so a run that keeps the limits is small enough
+-- a diagram has one order of solving and a run one size, so a run that keeps the limits is small
+-- enough
 pub small_enough : (d : DiagramView) (order : List ℕ) (size : Size) → OneSize → IsRelianceOrder d.nodes order → IsSizeOfRun d.nodes order size → KeepsPlanLimits size → IsSmallEnough d
 small_enough d order size one is sized keeps other run =
     let orders : run.order ≡ order = order_one (IsDecision d.nodes) (ReliesOn d.nodes) run.order order run.is_order is in

@@ -1,4 +1,5 @@
--- The sums of a decision: what its goals' plans give, added up, are the gains of the part of its scope.
+-- The sums of a decision: what its goals' plans give, added up, are the gains of the part of its
+-- scope.
 use Rattle.std.proofs.Common.{◌≡◌, ◌∙◌, ℕ, suc, ◌+◌, ◌*◌, ◌/◌, ◌%◌, ◌^◌, ◌<◌, ◌≤◌, max, inl, inr, List, [], ◌∷◌, ◌++◌, length, take, drop, get_or, slice_index, refl, sym, ap, subst, ℤ, pos, ◌+ℤ◌, nat_abs, arith, mul_comm}
 use Rattle.std.proofs.lemmas.Int.{ints}
 use Rattle.std.proofs.lemmas.List.{drop-take, take-append-drop, take-append-le, take-take, take_all}

@@ -48,7 +48,8 @@ no_states nodes scope keep none h = filter_none (holds scope) (numbers_of nodes)
 pub all_of_none : (R : ℕ → ℕ → Type 0) (vs : List ℕ) → vs ≡ [] → AllZip R vs []
 all_of_none R vs e = subst (λ v. AllZip R v []) (sym e) tt
 
--- the ancestors of a utility are its plan's nodes: it is no node of a path of arcs to itself, and no parent is a utility
+-- the ancestors of a utility are its plan's nodes: it is no node of a path of arcs to itself, and
+-- no parent is a utility
 module _ (nodes : List NodeView) (g : IsGraph nodes) (tested : TestsDescent) (u : ℕ) where
   test_of_plan : (v : ℕ) → Descends (Arc nodes) v u → in_plan nodes (worth_plan u) v ≡ true
   test_of_plan v d = both (is_utility (node_at nodes v).kind) (descends nodes v u) (plain (node_at nodes v).kind (g.no_utility_parent v d.0 d.1)) ((tested nodes v u).1 d)

@@ -1,4 +1,5 @@
--- What is answered at a decision against a base, and at the decisions of a list. Only private functions cite it.
+-- What is answered at a decision against a base, and at the decisions of a list. Only private
+-- functions cite it.
 use Rattle.std.specs.Global.{Vec}
 use Rattle.std.specs.Prelude.{◌≡◌, ◌<◌, ℕ, List, All, map, length, slice_index_or, IfSome}
 use Rattle.maid_model.specs.declared.answers.Row.{Row}
@@ -6,8 +7,8 @@ use Rattle.maid_model.specs.Views.{NodeView, DiagramView, RuleView, AnswerView}
 use Rattle.maid_model.specs.Nodes.{states_of, rows_of}
 use Rattle.maid_model.specs.Answers.{FitsAnswer, IsAnswerAt, IsAnswerRow, IsReduced, no_row, pure_profile}
 
--- a row for each choice of the parents' states, each answered against the base, with choices in range and worths in
--- lowest terms
+-- a row for each choice of the parents' states, each answered against the base, with choices in
+-- range and worths in lowest terms
 pub record IsAnsweredBy
     (nodes : List NodeView) (decimals : ℕ) (base : List RuleView) (d : ℕ) (rows : List Row) : Type 0
   where

@@ -1,4 +1,5 @@
--- What refuses a diagram: the first that applies of the relevance cycle, the weight bound and too large a run.
+-- What refuses a diagram: the first that applies of the relevance cycle, the weight bound and too
+-- large a run.
 use Rattle.std.specs.Prelude.{ℕ, ◌≤◌, List, Option, Some, None}
 use Rattle.first_fault.specs.Passes.{Pass, ◌▸◌}
 use Rattle.maid_model.specs.declared.limits.TheConstants.{MOST_PLAN_CELLS, MOST_WORK}
@@ -30,7 +31,8 @@ cycle_pass d None = HasRelianceOrder d.nodes
 cycle_pass d (Some (Cycle list)) = (HasRelianceOrder d.nodes → ⊥) × IsRelianceCycle d.nodes list
 cycle_pass d (Some fault) = ⊥
 
--- the weight bound is kept in each scope, or the place of the first that fails is found: a node, or else the utilities
+-- the weight bound is kept in each scope, or the place of the first that fails is found: a node, or
+-- else the utilities
 abbrev pub bound_pass : DiagramView → Pass FaultView
 bound_pass d None = KeepsScopedBounds d
 bound_pass d (Some (WeightBound (Some v))) = IsPassedAt d v

@@ -13,12 +13,14 @@ abbrev pub OrdersListDecisions : Type 0
 OrdersListDecisions =
     (nodes : List NodeView) (order : List ℕ) → IsRelianceOrder nodes order → ListsDecisions nodes order
 
--- in an order that lists each decision once, each plan of a run has at most the cells of the run's size
+-- in an order that lists each decision once, each plan of a run has at most the cells of the run's
+-- size
 abbrev pub CountedRunsHaveRoom : Type 0
 CountedRunsHaveRoom = (nodes : List NodeView) (order : List ℕ) (size : Size)
     → ListsDecisions nodes order → IsSizeOfRun nodes order size → HasRoomForRun nodes size.cells
 
--- where further plans are counted with those of such a run, each of all these plans has at most the cells of their size
+-- where further plans are counted with those of such a run, each of all these plans has at most the
+-- cells of their size
 abbrev pub CountedPlansHaveRoom : Type 0
 CountedPlansHaveRoom =
     (nodes : List NodeView) (order : List ℕ) (further : List PlanView) (size : Size)

@@ -1,4 +1,5 @@
--- The kinds of cell that are numbers. Proofs stand here since ghost members cite them; only private code does.
+-- The kinds of cell that are numbers. Proofs stand here since ghost members cite them; only private
+-- code does.
 use Rattle.std.proofs.Common.{refl}
 use Rattle.std.specs.Prelude.{pos}
 use Rattle.cell_rings.specs.Kinds.{gain_kind, as_gain, small_gain_kind, small_gain_of}

@@ -26,7 +26,8 @@ pub record IsChosenAt (nodes : List NodeView) (s : List RuleView) (d : ℕ) (row
     pub is_base : IsBase nodes s d base
     pub chosen : IsChosenBy nodes base d rows
 
--- the rows of the list's decisions are chosen in its order, each against its base in the chosen rules
+-- the rows of the list's decisions are chosen in its order, each against its base in the chosen
+-- rules
 pub record ChoosesAll
     (nodes : List NodeView) (placed : List ℕ) (answers : List AnswerView) : Type 0 where
   pub follow : map (λ a. a.decision) answers ≡ placed

@@ -1,4 +1,5 @@
--- The cells of a plan's last table as a decision's gains and masses. Only private functions cite it.
+-- The cells of a plan's last table as a decision's gains and masses. Only private functions cite
+-- it.
 use Rattle.std.specs.Prelude.{◌≡◌, ◌<◌, ◌≤◌, ◌↔◌, ℕ, ◌+◌, ◌*◌, ◌%◌, List, ◌∷◌, Contains, length, slice_index, slice_index_or, ℤ, pos, ◌+ℤ◌, ◌*ℤ◌, nat_abs}
 use Rattle.cell_rings.specs.Rings.{Ring}
 use Rattle.cell_rings.specs.Sums.{cell_at}

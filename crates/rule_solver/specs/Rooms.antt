@@ -34,7 +34,8 @@ pub record HasRoomForRun (nodes : List NodeView) (cells : ℕ) : Type 0 where
   pub decisions : (d : ℕ) → IsDecision nodes d → HasRoomForDecision nodes d cells
   pub worths : HasRoomForWorths nodes cells
 
--- these cells are at most every number that is no less than `fewest` and than the cells of each of the plans
+-- these cells are at most every number that is no less than `fewest` and than the cells of each of
+-- the plans
 abbrev pub AreNeededForPlans : ℕ → List SizedPlan → ℕ → Type 0
 AreNeededForPlans fewest plans cells =
     (n : ℕ) → fewest ≤ n → All (λ plan. plan.size.cells ≤ n) plans → cells ≤ n

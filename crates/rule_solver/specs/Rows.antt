@@ -1,5 +1,5 @@
--- What is answered in a row, whose states have these gains, against its mass. Of this a public function cites
--- `AreGainsOfRow` alone.
+-- What is answered in a row, whose states have these gains, against its mass. Of this a public
+-- function cites `AreGainsOfRow` alone.
 use Rattle.std.specs.Prelude.{◌≡◌, ◌<◌, ◌≤◌, ◌*◌, ℕ, ℤ, ◌≤ℤ◌, nat_abs, pos, List, All, length, slice_index, slice_index_or, Some, None, IfSome}
 use Rattle.maid_model.specs.declared.answers.Ratio.{Ratio}
 use Rattle.maid_model.specs.declared.answers.Row.{Row}
@@ -26,8 +26,8 @@ abbrev pub FitScaled : List ℕ → ℕ → Type 0
 FitScaled masses scale =
     (row : ℕ) → row < length masses → slice_index masses row * scale ≤ greatest_number
 
--- With mass the first best state, which is worth its gain over the mass and the scale. Without mass the first state,
--- and no worth.
+-- With mass the first best state, which is worth its gain over the mass and the scale. Without mass
+-- the first state, and no worth.
 pub record AnswersRow (gain : ℕ → ℤ) (states mass scale : ℕ) (r : Row) : Type 0 where
   pub best : 0 < mass → IsFirstBest gain states r.choice
   pub worth :
@@ -44,7 +44,8 @@ abbrev pub AnswersInList : List ℤ → List ℕ → ℕ → ℕ → ℕ → Row
 AnswersInList gains masses states scale row r =
     AnswersRow (λ s. gain_in gains states s row) states (slice_index masses row) scale r
 
--- so many rows, each answered by its own gains and mass, with choices in range and worths in lowest terms
+-- so many rows, each answered by its own gains and mass, with choices in range and worths in lowest
+-- terms
 pub record AnswersRows
     (gain : ℕ → ℕ → ℤ) (mass : ℕ → ℕ) (states scale number : ℕ) (rows : List Row) : Type 0 where
   pub count : length rows ≡ number

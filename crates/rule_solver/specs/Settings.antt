@@ -1,4 +1,5 @@
--- A setting as the program has it: what its plans are, and what the decision's gains and masses are there.
+-- A setting as the program has it: what its plans are, and what the decision's gains and masses are
+-- there.
 use Rattle.std.specs.Global.{Vec}
 use Rattle.std.specs.Prelude.{ℕ, List, ℤ, take}
 use Rattle.eliminate.specs.Results.{plan_total}

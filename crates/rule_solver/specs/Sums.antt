@@ -28,7 +28,8 @@ abbrev pub scope_mass : List NodeView → List RuleView → ℕ → ℕ → ℤ
 scope_mass nodes p d row =
     mass_at (scope_part nodes d) (rules_in_scope nodes p d) (place_in_scope nodes d) row
 
--- a gain for each row and state, the state fastest, and a mass for each row: those in the part of the decision's scope
+-- a gain for each row and state, the state fastest, and a mass for each row: those in the part of
+-- the decision's scope
 pub record IsRowSums
     (nodes : List NodeView) (p : List RuleView) (d : ℕ) (gains : List ℤ) (masses : List ℕ) : Type 0
   where
@@ -67,8 +68,8 @@ abbrev pub KeepsRowRoom : List NodeView → ℕ → RowSums → Type 0
 KeepsRowRoom nodes d sums = KeepsRoom nodes d sums.gains.items sums.masses.items
 
 -- ---- a setting
--- a decision and a profile whose other rules are small, within the bound, with the totals of all nodes and the
--- decision's scope
+-- a decision and a profile whose other rules are small, within the bound, with the totals of all
+-- nodes and the decision's scope
 pub record IsSetting
     (d : DiagramView) (p : List RuleView) (decision : ℕ) (totals : List ℕ) (scope : NodeSet) : Type
     0 where
@@ -91,7 +92,8 @@ pub record HasMasses
   pub small : (q : World) → InRange (states_of d.nodes) q
       → slice_index masses (row_of d.nodes decision q) ≤ scope_product d.nodes decision
 
--- what one goal gives to a gain: the sum of its plan, times the totals of the scope's nodes that the plan lacks
+-- what one goal gives to a gain: the sum of its plan, times the totals of the scope's nodes that
+-- the plan lacks
 abbrev pub goal_part : List NodeView → List RuleView → ℕ → ℕ → World → ℤ
 goal_part nodes p d u q = plan_sum gain_cells nodes p (gain_plan nodes d u) q
     *ℤ pos (missing_in nodes p (scope_of nodes d) (gain_plan nodes d u))

@@ -18,8 +18,8 @@ utility_of_plan None = 0
 abbrev pub goal_in : SizedPlan → ℕ
 goal_in plan = utility_of_plan plan.plan.utility
 
--- what the joint sums of a decision's goals share: the nodes with their own tables, an order of the other nodes, and
--- the product of those tables' totals
+-- what the joint sums of a decision's goals share: the nodes with their own tables, an order of the
+-- other nodes, and the product of those tables' totals
 pub record IsJoint
     (nodes : List NodeView) (p : List RuleView) (d : ℕ) (joint : JointSums) : Type 0 where
   pub ruled : joint.ruled.items ≡ joint_ruled nodes d

@@ -45,16 +45,16 @@ pub record HasWorthsFor
 abbrev pub AreWorthsFor : List NodeView → List RuleView → ℕ → Vec ℤ → Type 0
 AreWorthsFor nodes p agent worths = HasWorthsFor nodes p agent worths.items
 
--- what a node gives to an agent's gain: a utility of the agent its worth times the totals of the scope's nodes that
--- its plan lacks
+-- what a node gives to an agent's gain: a utility of the agent its worth times the totals of the
+-- scope's nodes that its plan lacks
 abbrev pub share_for : List NodeView → List RuleView → ℕ → List ℤ → ℕ → ℤ
 share_for nodes p agent worths v = if is_utility_of nodes agent v
     then slice_index_or worths v (pos 0)
     *ℤ pos (missing_in nodes p (scope_for nodes agent) (worth_plan v))
     else pos 0
 
--- an agent and a profile of pure rules, within the bound, with the totals of all nodes, the worths of the
--- agent's utilities and its scope
+-- an agent and a profile of pure rules, within the bound, with the totals of all nodes, the worths
+-- of the agent's utilities and its scope
 pub record IsStake
     (d : DiagramView) (p : List RuleView) (agent : ℕ) (totals : List ℕ) (worths : List ℤ)
     (scope : NodeSet) : Type 0 where

@@ -57,8 +57,8 @@ fn answer_decision(
     answer_rows(alloc, &sums.gains, &sums.masses, states, diagram.scale())
 }
 
-/// What is answered at each decision of the order of solving, each against its base in the rules answered before it,
-/// by its plans.
+/// What is answered at each decision of the order of solving, each against its base in the rules
+/// answered before it, by its plans.
 pub(crate) fn answer_all(
     alloc: Global,
     diagram: &Diagram,

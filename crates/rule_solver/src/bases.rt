@@ -15,8 +15,8 @@ use node_sets::NodeSet;
 use relevance_graph::Relevance;
 use std::alloc::{AllocError, Global};
 
-/// The base of a decision that relies on answered decisions alone: their answered rules where it relies on them, and
-/// uniform rules at all other decisions.
+/// The base of a decision that relies on answered decisions alone: their answered rules where it
+/// relies on them, and uniform rules at all other decisions.
 pub fn base_of(
     alloc: Global,
     diagram: &Diagram,
@@ -144,8 +144,8 @@ impl TurningBase {
         Ok(())
     }
 
-    /// Gives the answered decision at that place the rule of its answer where it is relied on, and else the uniform
-    /// rule, unless it has that already.
+    /// Gives the answered decision at that place the rule of its answer where it is relied on, and
+    /// else the uniform rule, unless it has that already.
     fn turn_one(
         &mut self,
         alloc: Global,
@@ -178,8 +178,8 @@ impl TurningBase {
         Ok(())
     }
 
-    /// Makes the base of the last decision that of the next one, which relies on answered decisions alone. It puts in
-    /// no rule that the base has already.
+    /// Makes the base of the last decision that of the next one, which relies on answered decisions
+    /// alone. It puts in no rule that the base has already.
     pub(crate) fn turn(
         &mut self,
         alloc: Global,

@@ -30,7 +30,8 @@ use weight_scale::decision_scope;
 /// What the states of a decision gain in each row, and how much mass each row has.
 #[derive(Debug, Drop)]
 pub struct RowSums {
-    /// A gain for each row and state, the first parent slowest and the decision's own state fastest.
+    /// A gain for each row and state, the first parent slowest and the decision's own state
+    /// fastest.
     pub gains: Vec<i128>,
     /// A mass for each row.
     pub masses: Vec<u128>,
@@ -38,8 +39,9 @@ pub struct RowSums {
 
 /// A decision, the profile in which it is looked at, and what its sums count.
 ///
-/// The scope stays from profile to profile, and so do the totals as long as the total of each rule does. So a caller that
-/// asks for a decision's gains in one profile of pure rules after another keeps both.
+/// The scope stays from profile to profile, and so do the totals as long as the total of each rule
+/// does. So a caller that asks for a decision's gains in one profile of pure rules after another
+/// keeps both.
 #[derive(Drop)]
 pub struct Setting<'a> {
     pub diagram: &'a Diagram,
@@ -52,8 +54,8 @@ pub struct Setting<'a> {
 }
 
 impl<'a> Setting<'a> {
-    /// Runs the plan of the decision's rows in cells that hold all of its numbers, and writes what it sums to, times
-    /// the factor, as the masses.
+    /// Runs the plan of the decision's rows in cells that hold all of its numbers, and writes what
+    /// it sums to, times the factor, as the masses.
     fn run_rows<C: Number>(
         &self,
         alloc: Global,
@@ -89,8 +91,9 @@ impl<'a> Setting<'a> {
         Ok(())
     }
 
-    /// Writes the masses of the decision's rows in the part of its scope: what the plan of its rows sums to, in small
-    /// cells where they surely hold its numbers, times the totals of the scope's other nodes that the plan lacks.
+    /// Writes the masses of the decision's rows in the part of its scope: what the plan of its rows
+    /// sums to, in small cells where they surely hold its numbers, times the totals of the scope's
+    /// other nodes that the plan lacks.
     fn put_rows(
         &self,
         alloc: Global,
@@ -140,8 +143,8 @@ impl<'a> Setting<'a> {
         Ok(masses)
     }
 
-    /// Runs the goal's plan in cells that hold all of its numbers, and adds what it sums to, times the factor, to the
-    /// gains.
+    /// Runs the goal's plan in cells that hold all of its numbers, and adds what it sums to, times
+    /// the factor, to the gains.
     fn run_goal<C: Number>(
         &self,
         alloc: Global,
@@ -177,8 +180,8 @@ impl<'a> Setting<'a> {
         Ok(())
     }
 
-    /// Adds what one goal gives to each gain: what the goal's plan sums to, in small cells where they surely hold its
-    /// numbers, times the totals of the scope's nodes that the plan lacks.
+    /// Adds what one goal gives to each gain: what the goal's plan sums to, in small cells where
+    /// they surely hold its numbers, times the totals of the scope's nodes that the plan lacks.
     fn add_goal(
         &self,
         alloc: Global,
@@ -208,8 +211,8 @@ impl<'a> Setting<'a> {
         }
     }
 
-    /// Adds what the decision's goals give to the gains: of several goals together, in this order for as long as that serves,
-    /// and then of one after the other.
+    /// Adds what the decision's goals give to the gains: of several goals together, in this order
+    /// for as long as that serves, and then of one after the other.
     fn add_goals(
         &self,
         alloc: Global,
@@ -264,9 +267,10 @@ impl<'a> Setting<'a> {
         Ok(gains)
     }
 
-    /// The gains of which `row_sums_by` tells, without the masses: it runs the plans of the goals alone, in workspaces with
-    /// room for the largest of them, which are left as they were found. Several goals are summed together in this order of
-    /// the plans' steps, such as a decision's plans have, and none without one; what the gains are does not depend on it.
+    /// The gains of which `row_sums_by` tells, without the masses: it runs the plans of the goals
+    /// alone, in workspaces with room for the largest of them, which are left as they were found.
+    /// Several goals are summed together in this order of the plans' steps, such as a decision's
+    /// plans have, and none without one; what the gains are does not depend on it.
     ///
     /// # Errors
     ///
@@ -311,13 +315,13 @@ impl<'a> Setting<'a> {
     }
 }
 
-/// What `row_sums` tells of a decision, by plans that are made already, in workspaces with room for the largest of
-/// them.
+/// What `row_sums` tells of a decision, by plans that are made already, in workspaces with room for
+/// the largest of them.
 ///
-/// The plans, as `size_precheck::plan_decision` makes them, do not depend on the profile, so a caller that asks for a
-/// decision's sums again and again keeps them. The workspaces are left as they were found. It may be asked where each
-/// scope keeps the weight bound, and no other rule adds up to more than its decision has states, as pure and uniform
-/// ones do.
+/// The plans, as `size_precheck::plan_decision` makes them, do not depend on the profile, so a
+/// caller that asks for a decision's sums again and again keeps them. The workspaces are left as
+/// they were found. It may be asked where each scope keeps the weight bound, and no other rule adds
+/// up to more than its decision has states, as pure and uniform ones do.
 ///
 /// # Errors
 ///
@@ -351,7 +355,8 @@ pub fn row_sums_by(
     setting.row_sums(alloc, plans, spaces)
 }
 
-/// The gains of which `row_sums_by` tells, without the masses: it runs the plans of the goals alone.
+/// The gains of which `row_sums_by` tells, without the masses: it runs the plans of the goals
+/// alone.
 ///
 /// # Errors
 ///
@@ -384,8 +389,9 @@ pub fn row_gains_by(
     setting.row_gains(alloc, &plans.goals, &plans.joint_order, spaces)
 }
 
-/// Workspaces with room for the plans of a decision: those that another run has left, where they have it, and else new
-/// ones. It may be asked where no plan of the decision has more than 4,194,304 cells.
+/// Workspaces with room for the plans of a decision: those that another run has left, where they
+/// have it, and else new ones. It may be asked where no plan of the decision has more than
+/// 4,194,304 cells.
 ///
 /// # Errors
 ///
@@ -410,14 +416,16 @@ pub fn spaces_for(
     Workspaces::with_room(alloc, left, cells)
 }
 
-/// What the states of a decision gain in each row, and the rows' masses, with the profile as base: the sums over the
-/// worlds of the part that the decision's scope makes. A decision's own rule counts in neither.
+/// What the states of a decision gain in each row, and the rows' masses, with the profile as base:
+/// the sums over the worlds of the part that the decision's scope makes. A decision's own rule
+/// counts in neither.
 ///
-/// It sums by variable elimination: one plan for the rows, and one for each utility of the decision's agent that
-/// descends from the decision. It makes all of them before it runs the first, and reserves two workspaces, of small and
-/// of wide cells, of as many cells as the largest has. In a third, of pairs, it sums several of the utilities together
-/// where that is less work. It may be asked where no such plan has more than 4,194,304 cells, each scope keeps the weight
-/// bound, and no other rule adds up to more than its decision has states, as pure and uniform ones do.
+/// It sums by variable elimination: one plan for the rows, and one for each utility of the
+/// decision's agent that descends from the decision. It makes all of them before it runs the first,
+/// and reserves two workspaces, of small and of wide cells, of as many cells as the largest has. In
+/// a third, of pairs, it sums several of the utilities together where that is less work. It may be
+/// asked where no such plan has more than 4,194,304 cells, each scope keeps the weight bound, and
+/// no other rule adds up to more than its decision has states, as pure and uniform ones do.
 ///
 /// # Errors
 ///

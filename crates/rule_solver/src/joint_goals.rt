@@ -1,9 +1,10 @@
 //! Goals of a decision that are summed together.
 //!
-//! The plans of a decision's goals share nearly all of their nodes, and each plan eliminates these anew. Here one
-//! elimination sums several goals, over pairs of a mass and a gain: the pair of a utility's value has the mass 1, so the
-//! gain of a product is the product of the weights times the sum of the values. Where that has no room, takes longer or
-//! might not fit, each goal's own plan is run instead.
+//! The plans of a decision's goals share nearly all of their nodes, and each plan eliminates these
+//! anew. Here one elimination sums several goals, over pairs of a mass and a gain: the pair of a
+//! utility's value has the mass 1, so the gain of a product is the product of the weights times the
+//! sum of the values. Where that has no room, takes longer or might not fit, each goal's own plan
+//! is run instead.
 
 ghost use Rattle.std.specs.Prelude.{◌≡◌, ◌+◌, ◌*◌, ◌<◌, ◌≤◌, ℕ, [], Contains, IfOk, OnOk, drop, length, map, take};
 ghost use Rattle.joint_sums.specs.Joint.{AreGoals};
@@ -31,7 +32,8 @@ const MOST_SIZE: u128 = i128::MAX as u128;
 /// What the joint sums of a decision's goals share.
 #[derive(Drop)]
 struct JointSums<'a> {
-    /// The nodes whose own tables are multiplied: the chance and decision nodes of the scope, but the decision.
+    /// The nodes whose own tables are multiplied: the chance and decision nodes of the scope, but
+    /// the decision.
     ruled: Vec<usize>,
     /// Those of them that are summed out, in their order.
     steps: &'a [usize],
@@ -83,8 +85,8 @@ pub(crate) fn list_goals(alloc: Global, plans: &[Plan]) -> Result<Vec<usize>, Al
 }
 
 impl<'a> JointSums<'a> {
-    /// What the joint sums of these goals share, all goals of the decision, which have these plans. Nodes are summed out in
-    /// this order.
+    /// What the joint sums of these goals share, all goals of the decision, which have these plans.
+    /// Nodes are summed out in this order.
     fn new(
         alloc: Global,
         setting: &Setting,
@@ -125,8 +127,9 @@ impl<'a> JointSums<'a> {
         goals.len()
     }
 
-    /// Adds what these goals give to each gain, in one elimination within the limits. Its tables stay in the workspace.
-    /// Gives how many of the goals were added: all, or none where the limits are passed.
+    /// Adds what these goals give to each gain, in one elimination within the limits. Its tables
+    /// stay in the workspace. Gives how many of the goals were added: all, or none where the limits
+    /// are passed.
     fn sum_goals(
         &self,
         alloc: Global,
@@ -177,8 +180,9 @@ impl<'a> JointSums<'a> {
         }
     }
 
-    /// Adds what the first of these goals give to each gain: as many as surely fit into one sum, where they are two or more
-    /// and no fewer than half, and the sum has room. Gives how many they were.
+    /// Adds what the first of these goals give to each gain: as many as surely fit into one sum,
+    /// where they are two or more and no fewer than half, and the sum has room. Gives how many they
+    /// were.
     fn add_first(
         &self,
         alloc: Global,
@@ -214,8 +218,9 @@ impl<'a> JointSums<'a> {
     }
 }
 
-/// Adds what the decision's goals give to each gain, several of them together, for as long as that serves: up to the
-/// first that are better summed one by one. Gives how many goals were added, the first ones; none without an order.
+/// Adds what the decision's goals give to each gain, several of them together, for as long as that
+/// serves: up to the first that are better summed one by one. Gives how many goals were added, the
+/// first ones; none without an order.
 pub(crate) fn add_together(
     alloc: Global,
     setting: &Setting,

@@ -11,8 +11,9 @@ use relevance_graph::{
 use size_precheck::{KeptRun, keep_plans, kept_runs_stand};
 use std::alloc::{AllocError, Global};
 
-/// What is kept of a diagram for later runs: its plans, and the searches for its decisions. It is also that of a diagram
-/// in which other nodes have become decisions, as `kept_diagrams_stand` says.
+/// What is kept of a diagram for later runs: its plans, and the searches for its decisions. It is
+/// also that of a diagram in which other nodes have become decisions, as `kept_diagrams_stand`
+/// says.
 #[derive(Drop)]
 pub struct KeptDiagram {
     pub plans: KeptRun,
@@ -35,7 +36,8 @@ pub fn keep_diagram(alloc: Global, diagram: &Diagram) -> Result<KeptDiagram, All
     Ok(KeptDiagram { plans, searches })
 }
 
-/// What is kept of a diagram is also that of another one that keeps all that plans and searches look at.
+/// What is kept of a diagram is also that of another one that keeps all that plans and searches
+/// look at.
 pub fn kept_diagrams_stand()
     ensures { KeptDiagramsStand }
 {

@@ -1,5 +1,6 @@
-//! The answer of a diagram: the order of solving, the first best state in each row of each decision, and what the plan
-//! is worth to each agent. It is subgame-perfect, and optimal where one agent owns all decisions.
+//! The answer of a diagram: the order of solving, the first best state in each row of each
+//! decision, and what the plan is worth to each agent. It is subgame-perfect, and optimal where one
+//! agent owns all decisions.
 //!
 //! ```rust
 //! use net_build::build;

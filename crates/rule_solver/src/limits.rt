@@ -41,7 +41,8 @@ pub fn keeps_plan_limits(size: &Size) -> bool
     size.cells <= MOST_PLAN_CELLS as u128 && size.work <= MOST_WORK
 }
 
-/// The plans of the run that solves the decisions in this order, and its size. Those that are kept are copied.
+/// The plans of the run that solves the decisions in this order, and its size. Those that are kept
+/// are copied.
 fn plan_by(
     alloc: Global,
     diagram: &Diagram,
@@ -60,8 +61,8 @@ fn plan_by(
     }
 }
 
-/// The plans of the run that solves the decisions in this order, those that are kept among them, and its size. Refuses
-/// one that is too large.
+/// The plans of the run that solves the decisions in this order, those that are kept among them,
+/// and its size. Refuses one that is too large.
 pub(crate) fn keep_sizes(
     alloc: Global,
     diagram: &Diagram,

@@ -8,8 +8,8 @@ ghost use Rattle.rule_solver.specs.Reading.{IsNextRow, KeepsOtherStates};
 
 use maid_model::{Diagram, World};
 
-/// Goes on to the next choice of states of these nodes, the last one fastest, and from their last choice to the first
-/// again. The other nodes keep their states. It takes no memory.
+/// Goes on to the next choice of states of these nodes, the last one fastest, and from their last
+/// choice to the first again. The other nodes keep their states. It takes no memory.
 pub(crate) fn next_over(world: &mut World, diagram: &Diagram, nodes: &[usize])
     requires world { IsWorld (counts_of diagram.now.nodes) world.old }
     requires once { AllDifferent nodes.now }

@@ -1,5 +1,5 @@
-//! The optimum of an agent that decides alone: choices of its decisions, and what they are worth to it. What a row or
-//! another agent gets is left out.
+//! The optimum of an agent that decides alone: choices of its decisions, and what they are worth to
+//! it. What a row or another agent gets is left out.
 
 ghost use Rattle.std.specs.Prelude.{◌≡◌, ◌<◌, ◌≤◌, ◌*◌, IfOk, IfSome, OnOk, length};
 ghost use Rattle.first_fault.specs.Answers.{Passes};
@@ -48,7 +48,8 @@ use size_precheck::{DecisionPlans, Plan, RunPlans};
 use std::alloc::{AllocError, Global};
 use weight_scale::{agent_scope, decision_scope};
 
-/// The first best state of a row, where `gains` has a number for each row and state, the state fastest.
+/// The first best state of a row, where `gains` has a number for each row and state, the state
+/// fastest.
 fn choice_at(gains: &[i128], rows: usize, states: usize, row: usize) -> usize
     requires all { length gains.now ≡ rows * states }
     requires some { 0 < states }
@@ -81,8 +82,8 @@ fn choose_rows(
     Ok(chosen)
 }
 
-/// What is chosen at the decision against the base, by the plans of its goals. The plan of its rows is not run: where a
-/// row has no mass no state gains anything, and any choice is best.
+/// What is chosen at the decision against the base, by the plans of its goals. The plan of its rows
+/// is not run: where a row has no mass no state gains anything, and any choice is best.
 fn choose(
     alloc: Global,
     diagram: &Diagram,
@@ -118,8 +119,8 @@ fn choose(
     choose_rows(alloc, &gains, rows, states)
 }
 
-/// What is chosen at each decision of the order of solving, each against its base in the rules chosen before it, by its
-/// plans.
+/// What is chosen at each decision of the order of solving, each against its base in the rules
+/// chosen before it, by its plans.
 fn choose_all(
     alloc: Global,
     diagram: &Diagram,
@@ -181,7 +182,8 @@ fn worth_for(
     }
 }
 
-/// The worth of each of the agent's utilities, and 0 at other nodes. It runs the plans of these utilities alone.
+/// The worth of each of the agent's utilities, and 0 at other nodes. It runs the plans of these
+/// utilities alone.
 fn list_worths_for(
     alloc: Global,
     diagram: &Diagram,
@@ -218,7 +220,8 @@ fn list_worths_for(
     Ok(worths)
 }
 
-/// What the profile, whose rules are pure, is worth to the agent, by the plans of the utilities' worths.
+/// What the profile, whose rules are pure, is worth to the agent, by the plans of the utilities'
+/// worths.
 fn expected_for(
     alloc: Global,
     diagram: &Diagram,
@@ -254,8 +257,8 @@ fn expected_for(
     Ok(stake.expected())
 }
 
-/// The agent's optimum in a diagram whose decisions have this order of solving, by the plans of its run, in workspaces that
-/// another run has left where they have the room. It leaves its own.
+/// The agent's optimum in a diagram whose decisions have this order of solving, by the plans of its
+/// run, in workspaces that another run has left where they have the room. It leaves its own.
 fn optimum_along(
     alloc: Global,
     diagram: &Diagram,
@@ -324,10 +327,12 @@ fn optimum_ordered(
     Ok(optimum_along(alloc, diagram, agent, relevance, order, &run, left)?)
 }
 
-/// The optimum of the agent that owns all decisions of the diagram: what `solve` prints for it, at less cost. The plans of
-/// rows are made and counted, but not run, and so are those of other agents' utilities. Where plans and searches are kept,
-/// the plans are copied, and only the others are made. So it is for a diagram that was looked at before some of its nodes
-/// became decisions. It runs in the workspaces that are left of another run, where they have the room, and leaves its own.
+/// The optimum of the agent that owns all decisions of the diagram: what `solve` prints for it, at
+/// less cost. The plans of rows are made and counted, but not run, and so are those of other
+/// agents' utilities. Where plans and searches are kept, the plans are copied, and only the others
+/// are made. So it is for a diagram that was looked at before some of its nodes became decisions.
+/// It runs in the workspaces that are left of another run, where they have the room, and leaves its
+/// own.
 ///
 /// # Errors
 ///

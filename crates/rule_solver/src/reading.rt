@@ -15,8 +15,8 @@ use maid_model::{Diagram, World};
 use node_sets::NodeSet;
 use std::alloc::{AllocError, Global};
 
-/// The last table of a plan, over a decision's parents and perhaps itself, and by how much its numbers are to be
-/// multiplied.
+/// The last table of a plan, over a decision's parents and perhaps itself, and by how much its
+/// numbers are to be multiplied.
 #[derive(Drop)]
 pub(crate) struct LastTable<'a, C> {
     pub diagram: &'a Diagram,
@@ -128,9 +128,9 @@ fn add_by_worlds<C: HasNumber>(
     Ok(())
 }
 
-/// Adds the cells of a table over the decision and its parents, times the factor, to the decision's gains: one for each
-/// row and state, the state fastest. It goes over the cells once, in the order in which they stand, which is mostly that
-/// of the gains.
+/// Adds the cells of a table over the decision and its parents, times the factor, to the decision's
+/// gains: one for each row and state, the state fastest. It goes over the cells once, in the order
+/// in which they stand, which is mostly that of the gains.
 ///
 /// # Errors
 ///
@@ -212,9 +212,9 @@ fn put_by_worlds<C: Number>(
     Ok(())
 }
 
-/// Writes the cells of a table over the decision's parents, none of them below 0, times the factor, as the decision's
-/// masses, one for each row. It goes over the cells once, in the order in which they stand, which is mostly that of the
-/// rows.
+/// Writes the cells of a table over the decision's parents, none of them below 0, times the factor,
+/// as the decision's masses, one for each row. It goes over the cells once, in the order in which
+/// they stand, which is mostly that of the rows.
 ///
 /// # Errors
 ///

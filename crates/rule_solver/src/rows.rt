@@ -45,7 +45,8 @@ fn answer_row(gains: &[i128], mass: u128, scale: u128) -> Row
     }
 }
 
-/// The gains of the states in one row, where `gains` has a number for each row and state, the state fastest.
+/// The gains of the states in one row, where `gains` has a number for each row and state, the state
+/// fastest.
 pub fn row_gains(gains: &[i128], rows: usize, states: usize, row: usize) -> &[i128]
     requires all { length gains.now ≡ rows * states }
     requires row { row < rows }
@@ -56,7 +57,8 @@ pub fn row_gains(gains: &[i128], rows: usize, states: usize, row: usize) -> &[i1
     &gains[start..start + states]
 }
 
-/// What is answered in one row, where `gains` has a number for each row and state, the state fastest.
+/// What is answered in one row, where `gains` has a number for each row and state, the state
+/// fastest.
 fn answer_at(gains: &[i128], masses: &[u128], states: usize, scale: u128, row: usize) -> Row
     requires all { length gains.now ≡ length masses.now * states }
     requires some { 0 < states }
@@ -75,8 +77,8 @@ fn answer_at(gains: &[i128], masses: &[u128], states: usize, scale: u128, row: u
     )
 }
 
-/// What is answered in each row of a decision: `gains` has a number for each row and state, the state fastest, and
-/// `masses` one for each row.
+/// What is answered in each row of a decision: `gains` has a number for each row and state, the
+/// state fastest, and `masses` one for each row.
 pub(crate) fn answer_rows(
     alloc: Global,
     gains: &[i128],

@@ -29,11 +29,12 @@ use relevance_graph::{Relevance, find_relevance};
 use size_precheck::RunPlans;
 use std::alloc::{AllocError, Global};
 
-/// What `solve` tells of a diagram whose decisions have this order of solving, by the plans of its run, in workspaces
-/// with room for the largest of them.
+/// What `solve` tells of a diagram whose decisions have this order of solving, by the plans of its
+/// run, in workspaces with room for the largest of them.
 ///
-/// The plans, as `size_precheck::plan_run` makes them, and the workspaces are the caller's, who may run further plans in
-/// these. They are left as they were found. It may be asked where each scope keeps the weight bound.
+/// The plans, as `size_precheck::plan_run` makes them, and the workspaces are the caller's, who may
+/// run further plans in these. They are left as they were found. It may be asked where each scope
+/// keeps the weight bound.
 ///
 /// # Errors
 ///
@@ -66,8 +67,8 @@ pub fn solve_by(
     })
 }
 
-/// The answer of a diagram whose decisions have this order of solving, by the plans of its run. The workspaces are
-/// reserved once.
+/// The answer of a diagram whose decisions have this order of solving, by the plans of its run. The
+/// workspaces are reserved once.
 fn solve_along(
     alloc: Global,
     diagram: &Diagram,
@@ -133,20 +134,21 @@ pub fn solve_by_relevance(
     }
 }
 
-/// The answer of a diagram: the order of solving, at each decision the first best state in each row against the
-/// decision's base, and what the plan is worth to each agent.
+/// The answer of a diagram: the order of solving, at each decision the first best state in each row
+/// against the decision's base, and what the plan is worth to each agent.
 ///
-/// It takes the relevance graph, and sums by variable elimination: one plan for each decision's rows, one for each
-/// decision and each utility of its agent that descends from it, and one for each utility. Their work is what
-/// `size_precheck::measure` counts. The plans are made once, and kept until they are run; workspaces are reserved once:
-/// of small and of wide cells with the most cells of a plan, and of pairs, in which several goals of a decision are
-/// summed together where that is less work.
+/// It takes the relevance graph, and sums by variable elimination: one plan for each decision's
+/// rows, one for each decision and each utility of its agent that descends from it, and one for
+/// each utility. Their work is what `size_precheck::measure` counts. The plans are made once, and
+/// kept until they are run; workspaces are reserved once: of small and of wide cells with the most
+/// cells of a plan, and of pairs, in which several goals of a decision are summed together where
+/// that is less work.
 ///
 /// # Errors
 ///
-/// The first of these that holds: `Cycle` where the relevance graph has one, `WeightBound` where a scope passes the
-/// weight bound, and `TooLarge` where a plan has more than 4,194,304 cells, or all plans together have more than
-/// 134,217,728 steps of work. `NoMemory` may come at any point.
+/// The first of these that holds: `Cycle` where the relevance graph has one, `WeightBound` where a
+/// scope passes the weight bound, and `TooLarge` where a plan has more than 4,194,304 cells, or all
+/// plans together have more than 134,217,728 steps of work. `NoMemory` may come at any point.
 pub fn solve(alloc: Global, diagram: &Diagram) -> Result<Solved, SolveFault>
     // An answer where nothing refuses the diagram, and else the first refusal that applies.
     ensures rows { Passes solve_fault (solve_pass diagram.now) result }
@@ -157,7 +159,8 @@ pub fn solve(alloc: Global, diagram: &Diagram) -> Result<Solved, SolveFault>
     ensures optimal { IfOk result (HasOptimalProfile diagram.now) }
     // So what is printed for such an agent is the optimum of the diagram.
     ensures optimum { IfOk result (PrintsOptima diagram.now) }
-    // In a row of a live decision that the answered profile reaches, the printed worth is also that under the profile.
+    // In a row of a live decision that the answered profile reaches, the printed worth is also that
+    // under the profile.
     ensures worth { IfOk result (KeepsWorth diagram.now) }
 {
     let relevance = find_relevance(alloc, diagram)?;

@@ -10,9 +10,9 @@ use factor_core::Workspace;
 use size_precheck::{Plan, pair_room};
 use std::alloc::{AllocError, Global};
 
-/// Three workspaces: one for the plans whose numbers surely fit cells of 64 bits, one for all others, and one for goals
-/// that are summed together, in pairs of a mass and a gain. Reserved once, they serve any number of plans, one after
-/// another.
+/// Three workspaces: one for the plans whose numbers surely fit cells of 64 bits, one for all
+/// others, and one for goals that are summed together, in pairs of a mass and a gain. Reserved
+/// once, they serve any number of plans, one after another.
 #[derive(Drop)]
 pub struct Workspaces {
     pub small: Workspace<SmallGain>,
@@ -27,8 +27,8 @@ pub struct Workspaces {
 }
 
 impl Workspaces {
-    /// Workspaces without a table: two with room for so many cells each, and that of pairs with the room that
-    /// `pair_room` tells of.
+    /// Workspaces without a table: two with room for so many cells each, and that of pairs with the
+    /// room that `pair_room` tells of.
     pub fn reserve(alloc: Global, cells: usize) -> Result<Workspaces, AllocError>
         requires { cells ≤ MOST_PLAN_CELLS }
         ensures { IfOk result (AreReady cells) }
@@ -44,7 +44,8 @@ impl Workspaces {
         })
     }
 
-    /// The workspaces that another run has left, where they have room for so many cells, and else new ones.
+    /// The workspaces that another run has left, where they have room for so many cells, and else
+    /// new ones.
     pub(crate) fn with_room(
         alloc: Global,
         left: Option<Workspaces>,

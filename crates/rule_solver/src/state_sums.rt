@@ -18,7 +18,8 @@ use factor_core::Workspace;
 use maid_model::{Diagram, Profile};
 use size_precheck::Plan;
 
-/// Runs a plan that keeps one node, in cells that hold all of its numbers, and gives what it sums to at the state.
+/// Runs a plan that keeps one node, in cells that hold all of its numbers, and gives what it sums
+/// to at the state.
 fn run_at<C: Number>(
     diagram: &Diagram,
     profile: &Profile,
@@ -44,13 +45,13 @@ fn run_at<C: Number>(
     sum.number()
 }
 
-/// What a plan that keeps one node sums to where the node has the state, in the smaller cells where they surely hold its
-/// numbers. Without a utility that is a mass, and not below 0. `totals` are those of the diagram and the profile, as
-/// `list_totals` lists them.
+/// What a plan that keeps one node sums to where the node has the state, in the smaller cells where
+/// they surely hold its numbers. Without a utility that is a mass, and not below 0. `totals` are
+/// those of the diagram and the profile, as `list_totals` lists them.
 ///
-/// The plan is run once, in workspaces with room for it, which are left as they were found. It may be asked where twice
-/// the product of the plan's totals and of the greater of 1 and its utility's greatest absolute value fits 128 bits. It
-/// takes no memory.
+/// The plan is run once, in workspaces with room for it, which are left as they were found. It may
+/// be asked where twice the product of the plan's totals and of the greater of 1 and its utility's
+/// greatest absolute value fits 128 bits. It takes no memory.
 pub fn sum_at(
     diagram: &Diagram,
     profile: &Profile,

@@ -12,8 +12,8 @@ use std::alloc::{AllocError, Global};
 
 /// The totals of all nodes: what each row of a node's table or rule adds up to, and 1 at a utility.
 ///
-/// They stay as long as the total of each rule does, so a caller that goes from one profile of pure rules to the next
-/// lists them once. It looks at each node and at each rule once.
+/// They stay as long as the total of each rule does, so a caller that goes from one profile of pure
+/// rules to the next lists them once. It looks at each node and at each rule once.
 ///
 /// # Errors
 ///
@@ -29,7 +29,8 @@ pub fn list_totals(
 {
     let rules = profile.rules();
     let mut totals = Vec::with_capacity(alloc, diagram.count())?;
-    // Rules stand in text order of their decisions, so the next decision's is at the place behind the last one's.
+    // Rules stand in text order of their decisions, so the next decision's is at the place behind
+    // the last one's.
     let mut place = 0;
     for v in 0..diagram.count() {
         let total = match diagram.kind(v) {

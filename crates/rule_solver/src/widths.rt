@@ -61,7 +61,8 @@ fn is_small(total: u128) -> bool
     total <= MOST_SMALL
 }
 
-/// Whether all numbers in a run of the plan surely fit cells of 64 bits, by the totals of the nodes' tables and rules.
+/// Whether all numbers in a run of the plan surely fit cells of 64 bits, by the totals of the
+/// nodes' tables and rules.
 pub(crate) fn fits_small(diagram: &Diagram, totals: &[u128], plan: &Plan) -> bool
     requires diagram { IsDiagram diagram.now }
     requires planned { (asked : PlanView) × IsPlanned diagram.now.nodes asked plan.now }

@@ -31,7 +31,8 @@ use size_precheck::{Plan, greedy_orders, plan_worths};
 use std::alloc::{AllocError, Global};
 use weight_scale::agent_scope;
 
-/// Runs a plan that keeps no node, in cells that hold all of its numbers, and gives what it sums to.
+/// Runs a plan that keeps no node, in cells that hold all of its numbers, and gives what it sums
+/// to.
 fn run_worth<C: Number>(
     diagram: &Diagram,
     profile: &Profile,
@@ -134,7 +135,8 @@ pub(crate) struct Stake<'a> {
 }
 
 impl<'a> Stake<'a> {
-    /// What the utility gives to the agent's gain: its worth times the totals of the scope's nodes that its plan lacks.
+    /// What the utility gives to the agent's gain: its worth times the totals of the scope's nodes
+    /// that its plan lacks.
     fn given(&self, utility: usize) -> i128
         requires stake { HoldsStake self.now }
         requires within { utility < length self.now.diagram.now.nodes }
@@ -182,7 +184,8 @@ impl<'a> Stake<'a> {
         requires stake { HoldsStake self.now }
         ensures { IsExpectedTo self.now result }
     {
-        // The part of the scope has the whole's fraction, and its mass is the product of the scope's totals.
+        // The part of the scope has the whole's fraction, and its mass is the product of the
+        // scope's totals.
         scopes_are_parts();
         parts_decide();
         plans_sum_scopes();
@@ -191,8 +194,8 @@ impl<'a> Stake<'a> {
     }
 }
 
-/// What `expected` tells, by the plans of the utilities' worths, in workspaces with room for each of them. It runs each
-/// plan once. The workspaces are left as they were found.
+/// What `expected` tells, by the plans of the utilities' worths, in workspaces with room for each
+/// of them. It runs each plan once. The workspaces are left as they were found.
 ///
 /// # Errors
 ///
@@ -238,8 +241,8 @@ pub fn expected_along(
     Ok(gains)
 }
 
-/// What `expected` tells, in workspaces with room for each utility's plan. It makes each of these plans once, and runs
-/// it. The workspaces are left as they were found.
+/// What `expected` tells, in workspaces with room for each utility's plan. It makes each of these
+/// plans once, and runs it. The workspaces are left as they were found.
 ///
 /// # Errors
 ///
@@ -261,15 +264,18 @@ pub fn expected_by(
     expected_along(alloc, diagram, profile, &plans, spaces)
 }
 
-/// What the profile, whose rules are pure, is worth to each agent: a reduced fraction for each, in the agents' order.
+/// What the profile, whose rules are pure, is worth to each agent: a reduced fraction for each, in
+/// the agents' order.
 ///
-/// A utility's plan sums it with the tables and rules of its ancestors alone, by variable elimination. An agent's gain is
-/// what its utilities' plans give, each times the totals of those nodes of the agent's scope that the plan lacks; its
-/// expected utility is the gain over the product of the scope's totals and ten to the power of the decimals.
+/// A utility's plan sums it with the tables and rules of its ancestors alone, by variable
+/// elimination. An agent's gain is what its utilities' plans give, each times the totals of those
+/// nodes of the agent's scope that the plan lacks; its expected utility is the gain over the
+/// product of the scope's totals and ten to the power of the decimals.
 ///
-/// It makes each utility's plan once, and reserves the three `Workspaces`, with room for the largest of these plans, of
-/// which it runs all in those of small and of wide cells. It may be asked where each scope keeps the weight bound, and
-/// where no such plan has more than 4,194,304 cells.
+/// It makes each utility's plan once, and reserves the three `Workspaces`, with room for the
+/// largest of these plans, of which it runs all in those of small and of wide cells. It may be
+/// asked where each scope keeps the weight bound, and where no such plan has more than 4,194,304
+/// cells.
 ///
 /// # Errors
 ///

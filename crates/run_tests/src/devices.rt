@@ -1,13 +1,14 @@
-//! Devices that fail at one call, for each form of words: what was taken before it stands, and a later call changes
-//! nothing.
+//! Devices that fail at one call, for each form of words: what was taken before it stands, and a
+//! later call changes nothing.
 
 use crate::running::{REPORT, ended};
 use maid_app::{Status, lines};
 use std::alloc::{AllocError, Global};
 use std::test::Fail;
 
-// A run of each form that ends well, and at how many calls of the shelf: a start, four reads of the diagram and one
-// that gives nothing; for a check five more for the report, since it has three reads.
+// A run of each form that ends well, and at how many calls of the shelf: a start, four reads of the
+// diagram and one that gives nothing; for a check five more for the report, since it has three
+// reads.
 const RUNS: [(&str, u64); 12] = [
     ("solve steer.net", 6),
     ("graph steer.net", 6),
@@ -23,7 +24,8 @@ const RUNS: [(&str, u64); 12] = [
     ("demo 2", 0),
 ];
 
-// The same forms, each of a file that is not there; `demo`, which reads none, has a count that it refuses.
+// The same forms, each of a file that is not there; `demo`, which reads none, has a count that it
+// refuses.
 const REFUSED: [(&str, Status, &str); 12] = [
     ("solve gone.net", Status::Absent, ABSENT),
     ("graph gone.net", Status::Absent, ABSENT),
@@ -60,7 +62,8 @@ fn tells_the_read(alloc: Global, words: &str, call: u64) -> Result<bool, AllocEr
     Ok(end.is(Status::ReadFault, &[], line.as_bytes()))
 }
 
-// Whether the run tells a write fault where this call of `out` fails, which has taken ten bytes at each one before.
+// Whether the run tells a write fault where this call of `out` fails, which has taken ten bytes at
+// each one before.
 fn tells_the_write(
     alloc: Global,
     words: &str,
@@ -77,8 +80,8 @@ fn tells_the_write(
     )
 }
 
-// Whether the run ends with this status and no text where this call of `err` fails, which has taken seven bytes of
-// the line at each one before, or all of it.
+// Whether the run ends with this status and no text where this call of `err` fails, which has taken
+// seven bytes of the line at each one before, or all of it.
 fn keeps_the_status(
     alloc: Global,
     words: &str,
@@ -96,8 +99,8 @@ fn keeps_the_status(
     )
 }
 
-// The first call of the shelf whose failure the run does not tell, or the one after the last where that changes
-// anything; 0 where the run does not end well of itself.
+// The first call of the shelf whose failure the run does not tell, or the one after the last where
+// that changes anything; 0 where the run does not end well of itself.
 fn wrong_read(alloc: Global, words: &str, calls: u64) -> Result<Option<u64>, AllocError> {
     let whole = ended(alloc, words, [0, 0, 0], ROOM)?;
     if whole.status != Status::Done {
@@ -148,7 +151,8 @@ fn each_write_of_the_text_fails_in_turn(rt: HostRuntime) -> Result<(), Fail> {
     Ok(())
 }
 
-// The first call of `err`, up to the one after the last, that does not keep the status where it fails.
+// The first call of `err`, up to the one after the last, that does not keep the status where it
+// fails.
 fn wrong_line(
     alloc: Global,
     words: &str,

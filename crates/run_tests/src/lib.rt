@@ -1,5 +1,5 @@
-//! The tests of `maid_app` and `maid_io`: they stand apart since a crate that has tests is proved twice, with them and
-//! without.
+//! The tests of `maid_app` and `maid_io`: they stand apart since a crate that has tests is proved
+//! twice, with them and without.
 #![tactic(auto)]
 
 #[cfg(test)]

@@ -168,7 +168,8 @@ const FORMLESS: [&str; 11] = [
     "--help",
 ];
 
-// The words, the call of the shelf that fails, where one does, the status, and the line that `err` takes.
+// The words, the call of the shelf that fails, where one does, the status, and the line that `err`
+// takes.
 const TOLD: [(&str, u64, Status, &str); 9] = [
     (
         "solve pennies.net",
@@ -303,8 +304,9 @@ fn sink(alloc: Global, room: usize, call: u64, piece: usize) -> Result<MemSink, 
     MemSink::new(alloc, room, vec![in alloc; call]?, piece)
 }
 
-// Runs the words over a shelf of these files that gives 50 bytes a read at most, an `out` with so much room
-// that takes ten a write, and an `err` that takes seven. Of each the call of that number fails.
+// Runs the words over a shelf of these files that gives 50 bytes a read at most, an `out` with so
+// much room that takes ten a write, and an `err` that takes seven. Of each the call of that number
+// fails.
 fn ended_over(
     alloc: Global,
     words: &str,

@@ -106,8 +106,8 @@ impl<'a> Sample<'a> {
     }
 }
 
-/// The diagram of these nodes, of so many agents, whose utilities are scaled by ten to the power of `decimals`. It
-/// copies all lists.
+/// The diagram of these nodes, of so many agents, whose utilities are scaled by ten to the power of
+/// `decimals`. It copies all lists.
 pub fn sample_diagram(
     alloc: Global,
     nodes: &[Sample],

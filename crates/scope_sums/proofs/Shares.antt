@@ -1,5 +1,5 @@
--- By what the shares of agents in a scope are added: sums and products over listed nodes, and that their numbers have
--- room in 128 bits.
+-- By what the shares of agents in a scope are added: sums and products over listed nodes, and that
+-- their numbers have room in 128 bits.
 use Rattle.std.proofs.Common.{◌≡◌, ◌∙◌, ℕ, zero, suc, ◌+◌, ◌*◌, ◌^◌, ◌<◌, ◌≤◌, max, mul-add, Bool, true, false, cond, filter, List, [], ◌∷◌, refl, ap, subst, inl, inr, arith, FitsSigned, ℤ, pos, nat_abs, to_z, of_z, ◌+ℤ◌, ◌*ℤ◌}
 use Rattle.std.specs.Int.{w128}
 use Rattle.std.specs.List.{range_with_len}

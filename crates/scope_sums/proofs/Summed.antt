@@ -1,4 +1,5 @@
--- The sums of a scope's part are those of its plans: both are the whole's, but for the totals left out.
+-- The sums of a scope's part are those of its plans: both are the whole's, but for the totals left
+-- out.
 use Rattle.std.proofs.Common.{◌≡◌, ◌∙◌, ℕ, ◌*◌, ◌<◌, Bool, true, false, cond, ◌&&◌, eqb, filter, List, [], ◌∷◌, refl, sym, ap, subst, inl, inr, arith, Contains, Some, None, ℤ, pos, ◌*ℤ◌}
 use Rattle.std.proofs.lemmas.Int.{ints}
 use Rattle.maid_model.specs.Gains.{gain_at, mass_at}

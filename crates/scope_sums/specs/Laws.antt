@@ -16,8 +16,8 @@ use Rattle.plan_sums.specs.Sizes.{IsPlan}
 use Rattle.scope_sums.specs.Missing.{missing_in, missing_in_without}
 
 -- ---- sums
--- the part of a decision's scope has as gains the sums of its goals' plans, each times the totals of the scope's
--- nodes that the plan lacks, and as masses those of the plan of its rows
+-- the part of a decision's scope has as gains the sums of its goals' plans, each times the totals
+-- of the scope's nodes that the plan lacks, and as masses those of the plan of its rows
 pub record IsSumOfPlans (nodes : List NodeView) (p : List RuleView) (d : ℕ) : Type 0 where
   pub gain : (q : World) → InRange (states_of nodes) q
       → gain_at (scope_part nodes d) (rules_in_scope nodes p d) (place_in_scope nodes d) (q d)
@@ -38,8 +38,8 @@ abbrev pub SumsOfScopes : Type 0
 SumsOfScopes = (nodes : List NodeView) (p : List RuleView) (d : ℕ) → IsGraph nodes
     → HasChanceTables nodes → IsProfile nodes p → IsDecision nodes d → IsSumOfPlans nodes p d
 
--- the part of an agent's scope has as gain the sum of its utilities' plans, each times the totals of the scope's
--- nodes that the plan lacks
+-- the part of an agent's scope has as gain the sum of its utilities' plans, each times the totals
+-- of the scope's nodes that the plan lacks
 pub record IsGainOfPlans (nodes : List NodeView) (p : List RuleView) (agent : ℕ) : Type 0 where
   pub gain : (q : World) → InRange (states_of nodes) q
       → gain_of (scope_part_for nodes agent) (rules_in_scope_for nodes p agent) agent
@@ -62,8 +62,8 @@ MassOfAgentsScopes = (nodes : List NodeView) (p : List RuleView) (agent : ℕ) �
     ≡ scope_product_for nodes agent
 
 -- ---- sizes
--- the totals of each plan's tables times those that it lacks, and its result times these, are within the decision's
--- P; so are those that it lacks
+-- the totals of each plan's tables times those that it lacks, and its result times these, are
+-- within the decision's P; so are those that it lacks
 pub record PlansFitScope (nodes : List NodeView) (p : List RuleView) (d : ℕ) : Type 0 where
   pub gain_tables : (u : ℕ) → IsGoal nodes d u
       → nat_product_over (weight_total nodes p) (ruled_nodes nodes (gain_plan nodes d u))
@@ -110,15 +110,16 @@ AgentsScopesFitPlans = (nodes : List NodeView) (p : List RuleView) (agent u : �
     → HasChanceTables nodes → IsProfile nodes p → HasUnitRules nodes p → u < length nodes
     → (node_at nodes u).kind ≡ Utility → Owns nodes agent u → PlanFitsAgentsScope nodes p agent u
 
--- The totals that a plan lacks of any nodes multiply to more than nought, with the decision's own or without.
+-- The totals that a plan lacks of any nodes multiply to more than nought, with the decision's own
+-- or without.
 abbrev pub MissingIsPositive : Type 0
 MissingIsPositive = (nodes : List NodeView) (p : List RuleView) (kept : List ℕ) (plan : PlanView)
     → IsGraph nodes → HasChanceTables nodes → IsProfile nodes p
     → (0 < missing_in nodes p kept plan) × ((d : ℕ) → 0 < missing_in_without nodes p d kept plan)
 
 -- ---- what may be asked for
--- The plan of a decision's rows may be asked for, and so may that of each goal, to which a path of arcs leads from
--- the decision, whose rule the plan leaves out.
+-- The plan of a decision's rows may be asked for, and so may that of each goal, to which a path of
+-- arcs leads from the decision, whose rule the plan leaves out.
 abbrev pub PlansCanBeAsked : Type 0
 PlansCanBeAsked = (nodes : List NodeView) (d : ℕ) → IsGraph nodes → IsDecision nodes d
     → IsPlan nodes (row_plan nodes d)

@@ -1,4 +1,5 @@
-//! What the plans of a scope sum to: the gains and masses of the part of a decision's or an agent's scope.
+//! What the plans of a scope sum to: the gains and masses of the part of a decision's or an agent's
+//! scope.
 #![tactic(auto)]
 
 mod scope_laws;

@@ -4,16 +4,16 @@ ghost use Rattle.scope_sums.specs.Laws.{SumsOfScopes, GainsOfAgentsScopes, MassO
 ghost use Rattle.scope_sums.specs.Laws.{ScopesFitPlans, AgentsScopesFitPlans, MissingIsPositive};
 ghost use Rattle.scope_sums.specs.Laws.{PlansCanBeAsked, UtilitysPlanCanBeAsked};
 
-/// The results of plans, each times the totals that the plan lacks of the scope's nodes, give the gains and masses of
-/// the scope's part.
+/// The results of plans, each times the totals that the plan lacks of the scope's nodes, give the
+/// gains and masses of the scope's part.
 pub fn plans_sum_scopes()
     ensures sums { SumsOfScopes }
     ensures agents { GainsOfAgentsScopes }
     ensures mass { MassOfAgentsScopes }
 {}
 
-/// The totals of plans, those that they lack of the scope's nodes, and their results times these, are within the
-/// scope's P: of a decision for pure and uniform rules, of an agent for pure ones.
+/// The totals of plans, those that they lack of the scope's nodes, and their results times these,
+/// are within the scope's P: of a decision for pure and uniform rules, of an agent for pure ones.
 pub fn plans_keep_scopes()
     ensures decisions { ScopesFitPlans }
     ensures agents { AgentsScopesFitPlans }

@@ -1,5 +1,5 @@
--- Plans of worths of nodes that differ from others in the parents of one node: where that node leads not to the utility,
--- they are those of the others.
+-- Plans of worths of nodes that differ from others in the parents of one node: where that node
+-- leads not to the utility, they are those of the others.
 use Rattle.std.proofs.Common.{◌≡◌, ◌≢◌, ◌∙◌, ℕ, zero, suc, ◌<◌, Bool, true, false, not, ◌&&◌, ◌||◌, cond, eqb, filter, map, List, [], ◌∷◌, ◌++◌, length, Option, Some, Result, Ok, Err, IfOk, get_or, refl, sym, ap, subst, arith}
 use Rattle.std.specs.Prelude.{Contains}
 use Rattle.std.specs.List.{AllZip, list_any}
@@ -144,7 +144,8 @@ module _ (nodes others : List NodeView) (changed : ℕ) (differ : DifferAt nodes
   utilities_same = λ i. filter (λ u. is_utility (sym (differ.kind u) i)) (numbers_same nodes others differ.count differ.states i)
 
 -- ---- what a planner tells of such a plan
--- the plan of a worth that is kept is that of the others, where the planner has no path from the node that differs
+-- the plan of a worth that is kept is that of the others, where the planner has no path from the
+-- node that differs
 pub kept_beside : (others : List NodeView) (planner : Planner) (changed : ℕ) (before : SizedPlan) (own : Family) (v : ℕ) → TestsDescent → IsPlanner others planner → IsWorthBeside others changed before → before.plan.utility ≡ Some v
     → own ≡ get_or planner.families.items v own → false ≡ holds own.above changed → IsPlanned others before.plan before
 kept_beside others planner changed before own v tested knows (nodes, u, differ, planned) told here out =

@@ -1,4 +1,5 @@
--- What is known of the nodes that wait, each at a place of its own, as what is known of one changes.
+-- What is known of the nodes that wait, each at a place of its own, as what is known of one
+-- changes.
 use Rattle.std.proofs.Common.{◌≡◌, ◌∙◌, ◌⊎◌, ℕ, ◌+◌, ◌<◌, ◌∷◌, [], List, length, set, length-set, refl, sym, ap, subst, inl, inr, arith}
 use Rattle.std.specs.Prelude.{slice_index_or}
 use Rattle.std.proofs.lemmas.List.{get_or-set_same, get_or-set_other, get_or_append_left, get_or_at, length_push}

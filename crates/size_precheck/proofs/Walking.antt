@@ -19,7 +19,8 @@ module _ (set : NodeSet) (from v : ℕ) (first : IsFirstFrom set from v) where
 pub all_walked : (set : NodeSet) (from x : ℕ) → ((w : ℕ) → from ≤ w → IsIn set w → ⊥) → IsIn set x → x < from
 all_walked set from x none m = elim (cases_lt x from) as (λ _. x < from) [ inl l ↦ l | inr g ↦ absurd (none x g m) ]
 
--- a walk that gathers what belongs to the members: what is gathered up to the one found, and at the end
+-- a walk that gathers what belongs to the members: what is gathered up to the one found, and at the
+-- end
 module _ (set : NodeSet) (Belongs : ℕ → ℕ → Type 0) (from : ℕ) (nodes : NodeSet) (so_far : (u : ℕ) → IsIn nodes u ↔ ((t : ℕ) × (t < from) × IsIn set t × Belongs t u)) where
   pub gathered_more : (v : ℕ) (own after : NodeSet) → IsFirstFrom set from v → ((u : ℕ) → IsIn own u ↔ Belongs v u) → ((u : ℕ) → IsIn after u ↔ (IsIn nodes u ⊎ IsIn own u)) → (u : ℕ) → IsIn after u ↔ ((t : ℕ) × (t < v + 1) × IsIn set t × Belongs t u)
   gathered_more v own after first is all u = (

@@ -19,7 +19,8 @@ class_at classes i = slice_index_or classes i no_class
 abbrev pub nodes_at : List Class → ℕ → NodeSet
 nodes_at classes i = (class_at classes i).nodes
 
--- the cells of the classes rise, and each node that waits is in the class of its cells and in no other
+-- the cells of the classes rise, and each node that waits is in the class of its cells and in no
+-- other
 pub record AreClasses (counts : ℕ → ℕ) (waits : ℕ → Bool) (classes : List Class) : Type 0 where
   pub rising : (i j : ℕ) → i < j → j < length classes
       → (class_at classes i).cells < (class_at classes j).cells
@@ -51,7 +52,8 @@ abbrev pub IsOfCells : List Class → ℕ → ℕ → Type 0
 IsOfCells classes place cells =
     (place < length classes) × ((class_at classes place).cells ≡ cells)
 
--- what is found: of the nodes that wait the first in text of those with fewest cells, where any waits
+-- what is found: of the nodes that wait the first in text of those with fewest cells, where any
+-- waits
 abbrev pub FindsFewest : List Class → Option ℕ → Type 0
 FindsFewest classes found =
     (counts : ℕ → ℕ) (waits : ℕ → Bool) → AreClasses counts waits classes
@@ -63,13 +65,15 @@ HasLeft before after v cells =
     (counts : ℕ → ℕ) (waits fewer : ℕ → Bool) → IsLess waits fewer v → counts v ≡ cells
     → AreClasses counts waits before → AreClasses counts fewer after
 
--- v, of this many cells, has come: classes of some nodes but v have become those of the same nodes with v
+-- v, of this many cells, has come: classes of some nodes but v have become those of the same nodes
+-- with v
 abbrev pub HasCome : List Class → List Class → ℕ → ℕ → Type 0
 HasCome before after v cells =
     (counts : ℕ → ℕ) (waits fewer : ℕ → Bool) → IsLess waits fewer v → waits v ≡ true
     → counts v ≡ cells → AreClasses counts fewer before → AreClasses counts waits after
 
--- v, one of the nodes, has the cells `is` in place of `was`: the classes have become those by the new count
+-- v, one of the nodes, has the cells `is` in place of `was`: the classes have become those by the
+-- new count
 abbrev pub HasChanged : List Class → List Class → ℕ → ℕ → ℕ → Type 0
 HasChanged before after v was is =
     (counts recounted : ℕ → ℕ) (waits : ℕ → Bool) → waits v ≡ true

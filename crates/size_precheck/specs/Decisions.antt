@@ -32,8 +32,8 @@ ListsOnceOrNone Is order = 0 < length order → ListsOnce Is order
 abbrev pub ListsStepsOrNone : List SizedPlan → List ℕ → Type 0
 ListsStepsOrNone plans order = ListsOnceOrNone (IsStepOf plans) order
 
--- the plans of the decision: that of its rows, those of its states, one for each of its goals, and where the joint order
--- has a node, it lists the steps of the goals' plans, each once
+-- the plans of the decision: that of its rows, those of its states, one for each of its goals, and
+-- where the joint order has a node, it lists the steps of the goals' plans, each once
 pub record AreDecisionPlans (nodes : List NodeView) (d : ℕ) (plans : DecisionPlans) : Type 0 where
   pub of_rows : IsPlanned nodes (row_plan nodes d) plans.rows
   pub of_goals : ArePlansOfGoals nodes d plans.goals.items

@@ -1,4 +1,5 @@
--- What all plans of a diagram share. Public calls cite of this file only that a planner knows the nodes.
+-- What all plans of a diagram share. Public calls cite of this file only that a planner knows the
+-- nodes.
 use Rattle.std.specs.Prelude.{◌≡◌, ◌≢◌, ◌⊎◌, ◌↔◌, ℕ, ◌<◌, ◌+◌, Bool, List, [], ◌++◌, map, length, slice_index, slice_index_or, Contains, Option, option_to_list}
 use Rattle.maid_model.specs.declared.diagrams.Kind.TheVariants.{Utility}
 use Rattle.maid_model.specs.Nodes.{node_at, parents_of}

@@ -1,5 +1,5 @@
--- The order in which a plan eliminates its nodes: each time the one whose joined set has fewest cells (Koller and
--- Friedman 2009, greedy elimination by weight).
+-- The order in which a plan eliminates its nodes: each time the one whose joined set has fewest
+-- cells (Koller and Friedman 2009, greedy elimination by weight).
 use Rattle.std.specs.Prelude.{ℕ, ◌<◌, ◌≤◌, Bool, List, [], filter, take, length, slice_index, Contains}
 use Rattle.std.specs.List.{list_any}
 use Rattle.maid_model.specs.Placing.{Remains}
@@ -24,8 +24,8 @@ joined_set v scopes u = list_any (λ s. s u) (holding v scopes)
 abbrev pub joined_cells : List NodeView → List (ℕ → Bool) → List ℕ → ℕ → ℕ
 joined_cells nodes scopes steps v = counted_cells nodes (joined_set v (scopes_after steps scopes))
 
--- of the items that remain after these steps v is taken next: no joined set of one that remains has fewer cells than
--- v's, and none of one before v in text has as few
+-- of the items that remain after these steps v is taken next: no joined set of one that remains has
+-- fewer cells than v's, and none of one before v in text has as few
 pub record IsNext
     (nodes : List NodeView) (Item : ℕ → Type 0) (scopes : List (ℕ → Bool)) (steps : List ℕ) (v : ℕ)
     : Type 0 where

@@ -50,7 +50,8 @@ IsWithout before after v = (x : ℕ) → IsIn after x ↔ (IsIn before x × (x �
 abbrev pub IsWith : NodeSet → NodeSet → ℕ → Type 0
 IsWith before after v = (x : ℕ) → IsIn after x ↔ (IsIn before x ⊎ (x ≡ v))
 
--- the states of v can be divided out of the cells of the set: v is in it, and the count of the cells has not stopped
+-- the states of v can be divided out of the cells of the set: v is in it, and the count of the
+-- cells has not stopped
 abbrev pub CanBeDivided : List ℕ → NodeSet → ℕ → ℕ → Type 0
 CanBeDivided states set v cells =
     IsIn set v × (0 < slice_index states v) × (cells < COUNT_END)
@@ -61,7 +62,8 @@ CountsWithout states before after v cells less =
     IsWithout before after v → cells ≡ counted_over states (holds before)
     → less ≡ counted_over states (holds after)
 
--- where `cells` are those of a set, `result` are those of the set after the scope has come and the nodes `out` have left
+-- where `cells` are those of a set, `result` are those of the set after the scope has come and the
+-- nodes `out` have left
 abbrev pub CountsPut : List ℕ → NodeSet → NodeSet → NodeSet → ℕ → ℕ → Type 0
 CountsPut states before scope out cells result =
     (after : NodeSet)
@@ -172,7 +174,8 @@ pub record Tells (live : List Table) (y : ℕ) (joint : Joint) : Type 0 where
   pub set : (u : ℕ) → IsIn joint.set u ↔ SomeOf (λ t. IsIn t.scope y × IsIn t.scope u) live
   pub tables : (x : ℕ) → IsIn joint.tables x ↔ SomeOf (λ t. (t.tag ≡ x) × IsIn t.scope y) live
 
--- the live tables have different tags below MOST_NODES; where a tag's node waits, it is in the table's scope
+-- the live tables have different tags below MOST_NODES; where a tag's node waits, it is in the
+-- table's scope
 pub record AreLive (Waiting : ℕ → Type 0) (live : List Table) : Type 0 where
   pub small : HoldsOfEach (λ t. t.tag < MOST_NODES) live
   pub differ : TagsDiffer live
@@ -229,14 +232,16 @@ pub record IsGreedyStep
       * length (holding v (tests_of before)))
   pub joined : made.tables ≡ length (holding v (tests_of before))
 
--- what is known of the nodes that wait and of v becomes what a step at v makes of it, whichever tables are live
+-- what is known of the nodes that wait and of v becomes what a step at v makes of it, whichever
+-- tables are live
 abbrev pub MakesStep : List ℕ → NodeSet → ℕ → Known → Known → Made → Type 0
 MakesStep states waiting v before after made =
     (nodes : List NodeView) (live : List Table) → AreStateCounts nodes states
     → Stands states (λ y. IsIn waiting y ⊎ (y ≡ v)) live before
     → IsGreedyStep nodes states (IsIn waiting) v live after made
 
--- before the first step: what is known of the nodes that wait is right for tables of these scopes, which are counted
+-- before the first step: what is known of the nodes that wait is right for tables of these scopes,
+-- which are counted
 pub record IsGreedyStart
     (nodes : List NodeView) (states : List ℕ) (Waiting : ℕ → Type 0) (scopes : List (ℕ → Bool))
     (start : Start) : Type 0 where

@@ -25,14 +25,16 @@ IsFoundInKept kept d found =
     (nodes : List NodeView) (plans : DecisionPlans) → All (IsKept nodes) kept → found ≡ Some plans
     → AreDecisionPlans nodes d plans
 
--- what is kept of these nodes: what all their plans share, plans of decisions, and those of all utilities' worths
+-- what is kept of these nodes: what all their plans share, plans of decisions, and those of all
+-- utilities' worths
 pub record IsKeptRun (nodes : List NodeView) (kept : KeptRun) : Type 0 where
   pub planner : IsPlanner nodes kept.planner
   pub decisions : All (IsKept nodes) kept.decisions.items
   pub worths : ArePlansOfWorths nodes kept.worths.items
 
--- the others keep all that plans of the nodes' decisions look at: the states and the parents of each node, the utilities
--- of each agent, and the decisions with their agents; what else is a chance node or a decision does not matter
+-- the others keep all that plans of the nodes' decisions look at: the states and the parents of
+-- each node, the utilities of each agent, and the decisions with their agents; what else is a
+-- chance node or a decision does not matter
 pub record KeepsPlans (nodes others : List NodeView) : Type 0 where
   pub count : length others ≡ length nodes
   pub states : (v : ℕ) → states_of others v ≡ states_of nodes v

@@ -25,24 +25,25 @@ steps_work nodes [] scopes = 0
 steps_work nodes (v ∷ vs) scopes = counted_cells nodes (joined_set v scopes)
     * length (holding v scopes) + steps_work nodes vs (scopes_one v scopes)
 
--- the cells of a plan with these steps: of all first tables, of each table that a step makes, and of the last table
--- over the kept nodes
+-- the cells of a plan with these steps: of all first tables, of each table that a step makes, and
+-- of the last table over the kept nodes
 abbrev pub plan_cells : List NodeView → PlanView → List ℕ → ℕ
 plan_cells nodes plan steps =
     let scopes = first_scopes nodes plan in
     stopped (sum_by (λ s. counted_cells nodes s) scopes + made_cells nodes steps scopes
     + counted_cells nodes (has plan.keep))
 
--- the work of a plan with these steps: that of the steps, and at the end the cells of the kept nodes times the number
--- of live tables
+-- the work of a plan with these steps: that of the steps, and at the end the cells of the kept
+-- nodes times the number of live tables
 abbrev pub plan_work : List NodeView → PlanView → List ℕ → ℕ
 plan_work nodes plan steps =
     let scopes = first_scopes nodes plan in
     stopped (steps_work nodes steps scopes
     + counted_cells nodes (has plan.keep) * length (scopes_after steps scopes))
 
--- a plan that may be asked for: different chance or decision nodes are kept, the utility is one, and the rule that is
--- left out is that of a kept decision from which a path of arcs leads to the utility or to another kept node
+-- a plan that may be asked for: different chance or decision nodes are kept, the utility is one,
+-- and the rule that is left out is that of a kept decision from which a path of arcs leads to the
+-- utility or to another kept node
 pub record CanBePlanned (nodes : List NodeView) (plan : PlanView) : Type 0 where
   pub is_plan : IsPlan nodes plan
   pub known : (u : ℕ) → plan.utility ≡ Some u → u < length nodes
@@ -50,7 +51,8 @@ pub record CanBePlanned (nodes : List NodeView) (plan : PlanView) : Type 0 where
   pub leads : (d : ℕ) → plan.without ≡ Some d
       → (t : ℕ) × ((plan.utility ≡ Some t) ⊎ Contains plan.keep t) × Descends (Arc nodes) d t
 
--- what a plan is seen as: what is kept, left out and summed, the nodes that it eliminates in their order, and its size
+-- what a plan is seen as: what is kept, left out and summed, the nodes that it eliminates in their
+-- order, and its size
 pub record SizedPlan : Type 0 where
   pub plan : PlanView
   pub steps : List ℕ
@@ -120,8 +122,8 @@ abbrev pub ArePlansOfWorths : List NodeView → List SizedPlan → Type 0
 ArePlansOfWorths nodes plans =
     AllZip (IsPlanned nodes) (map (λ u. worth_plan u) (utility_list nodes)) plans
 
--- the plans of a run: for each decision in the order that of its rows, for each and each of its goals that of its
--- states, and for each utility that of its worth
+-- the plans of a run: for each decision in the order that of its rows, for each and each of its
+-- goals that of its states, and for each utility that of its worth
 abbrev pub run_plans : List NodeView → List ℕ → List PlanView
 run_plans nodes order =
     map (λ d. row_plan nodes d) order

@@ -1,4 +1,5 @@
-//! The nodes that wait, in classes of equal cells: the next one is the first of the lowest class that has any.
+//! The nodes that wait, in classes of equal cells: the next one is the first of the lowest class
+//! that has any.
 
 ghost use Rattle.std.specs.Prelude.{◌≡◌, ◌↔◌, ℕ, ◌<◌, ◌≤◌, length, IsTrue, IfOk, OnOk};
 ghost use Rattle.node_sets.specs.declared.sets.TheConstants.{MOST_NODES};
@@ -17,8 +18,8 @@ pub struct Class {
     pub nodes: NodeSet,
 }
 
-/// How many classes there may be before one goes with its last node. Cells come again, so that a class without a node is
-/// mostly filled anew.
+/// How many classes there may be before one goes with its last node. Cells come again, so that a
+/// class without a node is mostly filled anew.
 const FEW: usize = 8;
 
 /// The place of the first class that has no fewer cells.
@@ -91,7 +92,8 @@ fn is_of_cells(classes: &[Class], place: usize, cells: u64) -> bool
     place < classes.len() && classes[place].cells == cells
 }
 
-/// Takes a node out of the class of its cells. Where there are more than a few classes, the class goes with its last node.
+/// Takes a node out of the class of its cells. Where there are more than a few classes, the class
+/// goes with its last node.
 pub fn take_node(classes: &mut Vec<Class>, v: usize, cells: u64)
     requires { v < MOST_NODES }
     ensures { HasLeft classes.old.items classes.new.items v cells }

@@ -56,8 +56,8 @@ pub fn count_cells(states: &[u64], set: &NodeSet) -> u64
     cells
 }
 
-/// The count divided by a node's count of states. Where that is one of the most common, the compiler has less to do than a
-/// division.
+/// The count divided by a node's count of states. Where that is one of the most common, the
+/// compiler has less to do than a division.
 fn divide(cells: u64, states: u64) -> u64
     requires { 0 < states }
     ensures { result ≡ cells / states }
@@ -70,8 +70,8 @@ fn divide(cells: u64, states: u64) -> u64
     }
 }
 
-/// Whether the states of v can be divided out of the cells of the set. A count that has stopped says nothing of what is
-/// left.
+/// Whether the states of v can be divided out of the cells of the set. A count that has stopped
+/// says nothing of what is left.
 fn can_divide(states: &[u64], set: &NodeSet, v: usize, cells: u64) -> bool
     requires len { length states.now ≡ MOST_NODES }
     requires small { v < MOST_NODES }
@@ -94,8 +94,9 @@ pub fn count_less(states: &[u64], before: &NodeSet, after: &NodeSet, v: usize, c
     }
 }
 
-/// The cells of a joined set after a table's nodes have come and the node v, which `out` has, has left, where it had
-/// `cells` before. The states of v are divided out, and those of the nodes that came multiplied.
+/// The cells of a joined set after a table's nodes have come and the node v, which `out` has, has
+/// left, where it had `cells` before. The states of v are divided out, and those of the nodes that
+/// came multiplied.
 pub fn count_put(
     states: &[u64],
     before: &NodeSet,

@@ -23,8 +23,9 @@ pub struct DecisionPlans {
     pub rows: Plan,
     /// Those of its states, one for each of its goals in text order.
     pub goals: Vec<Plan>,
-    /// The nodes that these eliminate, each once, in an order in which all goals may be summed together; empty where that
-    /// would take longer or have no room. What the sums give does not depend on it.
+    /// The nodes that these eliminate, each once, in an order in which all goals may be summed
+    /// together; empty where that would take longer or have no room. What the sums give does not
+    /// depend on it.
     pub joint_order: Vec<usize>,
 }
 
@@ -113,8 +114,8 @@ pub fn plan_decision_by(
     })
 }
 
-/// The plans of a decision: that of its rows, and one for each utility of its agent that descends from it. `make_plan`
-/// tells what each of them costs.
+/// The plans of a decision: that of its rows, and one for each utility of its agent that descends
+/// from it. `make_plan` tells what each of them costs.
 pub fn plan_decision(
     alloc: Global,
     diagram: &Diagram,

@@ -1,6 +1,7 @@
 //! Orders in which all goals of a decision may be summed together.
 //!
-//! What a sum gives does not depend on its order, so no clause says in which order the nodes come: that serves speed alone.
+//! What a sum gives does not depend on its order, so no clause says in which order the nodes come:
+//! that serves speed alone.
 
 ghost use Rattle.std.specs.Prelude.{◌≡◌, ◌↔◌, ℕ, ◌*◌, ◌<◌, length, min, IfOk};
 ghost use Rattle.maid_model.specs.Nodes.{IsDecision};
@@ -31,12 +32,12 @@ const JOINT_STEP_TIME: u64 = 448;
 /// A joint sum goes over cells of pairs, which take about so many times as long as those of a plan.
 const PAIR_TIME: u64 = 8;
 
-/// For no more cells of pairs than this is there ever room. Goals whose joint sum asks for more are summed one by one, so
-/// more room would seldom be used.
+/// For no more cells of pairs than this is there ever room. Goals whose joint sum asks for more are
+/// summed one by one, so more room would seldom be used.
 pub const MOST_PAIR_CELLS: usize = 65_536;
 
-/// For how many cells of pairs there is room where the largest plan has so many cells: for four times as many, up to
-/// `MOST_PAIR_CELLS`.
+/// For how many cells of pairs there is room where the largest plan has so many cells: for four
+/// times as many, up to `MOST_PAIR_CELLS`.
 pub fn pair_room(cells: usize) -> usize
     ensures { result ≡ min (4 * cells) MOST_PAIR_CELLS }
 {
@@ -150,8 +151,9 @@ fn put_goals(
     cells
 }
 
-/// The nodes that wait in the order in which they are eliminated, each time the first whose joined set has fewest cells.
-/// There is no order, and it ends, as soon as what is counted passes the limits.
+/// The nodes that wait in the order in which they are eliminated, each time the first whose joined
+/// set has fewest cells. There is no order, and it ends, as soon as what is counted passes the
+/// limits.
 fn order_all(
     alloc: Global,
     states: &[u64],
@@ -182,7 +184,8 @@ fn order_all(
             _ => break,
         }
     }
-    // A node that waits stands in a class, so none is left where the limits are kept. A test tells that without a proof.
+    // A node that waits stands in a class, so none is left where the limits are kept. A test tells
+    // that without a proof.
     if rest.is_empty() && limits.allow(count, cells, work) {
         Ok(order)
     } else {
@@ -190,9 +193,10 @@ fn order_all(
     }
 }
 
-/// An order in which the decision's goals may be summed together, greedy as that of a plan with the tables of all goals:
-/// of the nodes that the goals' plans eliminate. It takes about as long as a plan. It is empty where the sum would take
-/// longer than the plans, or have more cells than there is room for beside the largest plan (`pair_room`).
+/// An order in which the decision's goals may be summed together, greedy as that of a plan with the
+/// tables of all goals: of the nodes that the goals' plans eliminate. It takes about as long as a
+/// plan. It is empty where the sum would take longer than the plans, or have more cells than there
+/// is room for beside the largest plan (`pair_room`).
 pub fn joint_order(
     alloc: Global,
     diagram: &Diagram,

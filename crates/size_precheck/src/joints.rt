@@ -36,8 +36,9 @@ impl Joint {
         }
     }
 
-    /// Puts a table to them, after the tables `gone` and the nodes `out` have left. The sets are changed where they stand:
-    /// a bit that is set in a copy has to be written before the copy can be read by whole words.
+    /// Puts a table to them, after the tables `gone` and the nodes `out` have left. The sets are
+    /// changed where they stand: a bit that is set in a copy has to be written before the copy can
+    /// be read by whole words.
     pub fn put(&mut self, table: &Table, gone: &NodeSet, out: &NodeSet)
         requires { table.now.tag < MOST_NODES }
         ensures { IsPut table.now (IsIn gone.now) (IsIn out.now) self.old self.new }

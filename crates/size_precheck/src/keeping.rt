@@ -17,17 +17,17 @@ use maid_model::{Diagram, descent_is_tested};
 use node_sets::MOST_NODES;
 use std::alloc::{AllocError, Global};
 
-/// A decision with its plans. They are also those of a diagram in which other nodes have become decisions, as
-/// `kept_plans_stand` says.
+/// A decision with its plans. They are also those of a diagram in which other nodes have become
+/// decisions, as `kept_plans_stand` says.
 #[derive(Debug, Drop)]
 pub struct KeptPlans {
     pub decision: usize,
     pub plans: DecisionPlans,
 }
 
-/// All that is kept of a diagram's plans for later runs: what they share, those of its decisions, and those of its
-/// utilities' worths. They are also those of a diagram in which other nodes have become decisions, as `kept_runs_stand`
-/// says.
+/// All that is kept of a diagram's plans for later runs: what they share, those of its decisions,
+/// and those of its utilities' worths. They are also those of a diagram in which other nodes have
+/// become decisions, as `kept_runs_stand` says.
 #[derive(Drop)]
 pub struct KeptRun {
     pub(crate) planner: Planner,
@@ -57,8 +57,9 @@ fn keep_decisions(
     Ok(kept)
 }
 
-/// The plans of each decision of the diagram and of each utility's worth, to be kept for later runs. `make_plan` tells the
-/// cost of each; what is kept of one is the list of its kept nodes and that of its steps.
+/// The plans of each decision of the diagram and of each utility's worth, to be kept for later
+/// runs. `make_plan` tells the cost of each; what is kept of one is the list of its kept nodes and
+/// that of its steps.
 pub fn keep_plans(alloc: Global, diagram: &Diagram) -> Result<KeptRun, AllocError>
     ensures decisions { IfOk result (λ run. FollowDecisions diagram.now.nodes run.decisions.items) }
     ensures kept { IfOk result (IsKeptRun diagram.now.nodes) }
@@ -89,7 +90,8 @@ fn copy_kept(
     Ok(None)
 }
 
-/// The plans of a decision: those that are kept of it, or else made by what is known of the diagram.
+/// The plans of a decision: those that are kept of it, or else made by what is known of the
+/// diagram.
 fn decision_with(
     alloc: Global,
     diagram: &Diagram,
@@ -128,8 +130,9 @@ pub(crate) fn plan_decisions(
     Ok(plans)
 }
 
-/// The plan of a utility's worth in an edited diagram, by that before the edit. It stays where the node whose parents the
-/// edit changed does not lead to the utility, and is made anew where it does.
+/// The plan of a utility's worth in an edited diagram, by that before the edit. It stays where the
+/// node whose parents the edit changed does not lead to the utility, and is made anew where it
+/// does.
 fn worth_beside(
     alloc: Global,
     diagram: &Diagram,
@@ -175,9 +178,10 @@ fn worths_beside(
     Ok(plans)
 }
 
-/// What is kept of an edited diagram for one run: the plans of its utilities' worths, and none of its decisions'. The edit
-/// changes the parents of one node, and `before` has the plans of the worths before it (`plan_worths`). They are copied
-/// where that node does not lead to the utility, and the others are made anew; `make_plan` tells the cost of each.
+/// What is kept of an edited diagram for one run: the plans of its utilities' worths, and none of
+/// its decisions'. The edit changes the parents of one node, and `before` has the plans of the
+/// worths before it (`plan_worths`). They are copied where that node does not lead to the utility,
+/// and the others are made anew; `make_plan` tells the cost of each.
 pub fn keep_edited(
     alloc: Global,
     diagram: &Diagram,

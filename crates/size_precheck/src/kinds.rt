@@ -50,8 +50,8 @@ pub fn gain_by(
     plan_by(alloc, diagram, planner, &keep, Some(decision), Some(goal))
 }
 
-/// The plan of a utility's worth, by what is known of the diagram: nothing is kept. What it sums to is the utility's
-/// part of an expected utility.
+/// The plan of a utility's worth, by what is known of the diagram: nothing is kept. What it sums to
+/// is the utility's part of an expected utility.
 pub fn worth_by(
     alloc: Global,
     diagram: &Diagram,

@@ -1,5 +1,5 @@
-//! How large the tables of a run get, before any of them is made: the order in which each plan eliminates its nodes, and
-//! exact counts of its cells and of its work.
+//! How large the tables of a run get, before any of them is made: the order in which each plan
+//! eliminates its nodes, and exact counts of its cells and of its work.
 #![tactic(auto)]
 
 mod classes;

@@ -8,8 +8,8 @@ use maid_model::Diagram;
 use node_sets::{Graph, NodeSet, ancestors};
 use std::alloc::{AllocError, Global};
 
-/// How often the nodes are gone over in text order. It takes once more than arcs of one path lead back in the text, so that
-/// few texts leave any node: it is searched for.
+/// How often the nodes are gone over in text order. It takes once more than arcs of one path lead
+/// back in the text, so that few texts leave any node: it is searched for.
 const PASSES: usize = 16;
 
 /// Whether all parents of the node are known.
@@ -20,7 +20,8 @@ fn knows_parents(diagram: &Diagram, known: &NodeSet, v: usize) -> bool
     diagram.parent_set(v).difference(known).is_empty()
 }
 
-/// The node, and all from which a path of arcs leads to it: what stands above its parents, which are known.
+/// The node, and all from which a path of arcs leads to it: what stands above its parents, which
+/// are known.
 fn join_parents(diagram: &Diagram, above: &[NodeSet], known: &NodeSet, v: usize) -> NodeSet
     requires within { v < length diagram.now.nodes }
     requires all { length above.now ≡ length diagram.now.nodes }

@@ -125,8 +125,9 @@ fn list_counts(alloc: Global, states: &[u64], joints: &[Joint]) -> Result<Vec<u6
 }
 
 impl Planner {
-    /// What is known of the diagram. It goes over the arcs a few times, and once more for each arc of a path that leads
-    /// back in text order, up to sixteen times. It takes memory for a few lists of as many entries as there are nodes.
+    /// What is known of the diagram. It goes over the arcs a few times, and once more for each arc
+    /// of a path that leads back in text order, up to sixteen times. It takes memory for a few
+    /// lists of as many entries as there are nodes.
     ///
     /// # Errors
     ///

@@ -18,8 +18,8 @@ use node_sets::NodeSet;
 use std::alloc::{AllocError, Global};
 use std::marker::Model;
 
-/// A plan: which nodes are kept, whose rule is left out, which utility is summed, and in which order the other nodes of
-/// the plan are eliminated.
+/// A plan: which nodes are kept, whose rule is left out, which utility is summed, and in which
+/// order the other nodes of the plan are eliminated.
 #[derive(Debug, Drop)]
 pub struct Plan {
     keep: Vec<usize>,
@@ -78,7 +78,8 @@ impl Plan {
         &self.steps
     }
 
-    /// The nodes of the plan: those that it keeps, and those that it eliminates. It takes no memory.
+    /// The nodes of the plan: those that it keeps, and those that it eliminates. It takes no
+    /// memory.
     pub fn members(&self) -> NodeSet
         ensures { (v : ℕ) → IsIn result v ↔ IsMember self.now v }
     {
@@ -167,16 +168,19 @@ pub fn plan_by(
     })
 }
 
-/// The plan that keeps these nodes, leaves the rule of `without` out, and has that utility. Its nodes are the kept ones and
-/// all from which a path of arcs leads to one of them or to the utility; its tables are those of its nodes and of the
-/// utility. Each time that node is eliminated whose joined set, all nodes of the tables that hold it, has fewest cells, and
-/// of several the first in text (greedy elimination by weight: Koller and Friedman 2009).
+/// The plan that keeps these nodes, leaves the rule of `without` out, and has that utility. Its
+/// nodes are the kept ones and all from which a path of arcs leads to one of them or to the
+/// utility; its tables are those of its nodes and of the utility. Each time that node is eliminated
+/// whose joined set, all nodes of the tables that hold it, has fewest cells, and of several the
+/// first in text (greedy elimination by weight: Koller and Friedman 2009).
 ///
-/// The nodes that wait stand in classes of equal cells, and a step takes the first of the lowest. It joins and counts the
-/// sets of the node's neighbours anew, and moves those of other cells than before to the classes of these: at most as many
-/// steps of counting as the joined sets have pairs of nodes, and for each move a look at eight classes more than nodes wait
-/// at most. It takes memory for a few lists of as many entries as there are nodes. First it makes what all plans of a diagram
-/// share; a caller that makes several plans makes that once, and each of them with `plan_by`.
+/// The nodes that wait stand in classes of equal cells, and a step takes the first of the lowest.
+/// It joins and counts the sets of the node's neighbours anew, and moves those of other cells than
+/// before to the classes of these: at most as many steps of counting as the joined sets have pairs
+/// of nodes, and for each move a look at eight classes more than nodes wait at most. It takes
+/// memory for a few lists of as many entries as there are nodes. First it makes what all plans of a
+/// diagram share; a caller that makes several plans makes that once, and each of them with
+/// `plan_by`.
 pub fn make_plan(
     alloc: Global,
     diagram: &Diagram,

@@ -112,12 +112,12 @@ pub fn plan_run_by(
     Ok(with_size(decisions, worths))
 }
 
-/// The plans of a run that solves the decisions in this order, made once and kept, and the size of the run: the greatest
-/// cells of its plans, and their work together.
+/// The plans of a run that solves the decisions in this order, made once and kept, and the size of
+/// the run: the greatest cells of its plans, and their work together.
 ///
-/// The plans are one for each decision's rows, one for each decision and each utility of its agent that descends from it,
-/// and one for each utility's worth. `make_plan` tells the cost of each; what is kept of one is the list
-/// of its kept nodes and that of its steps.
+/// The plans are one for each decision's rows, one for each decision and each utility of its agent
+/// that descends from it, and one for each utility's worth. `make_plan` tells the cost of each;
+/// what is kept of one is the list of its kept nodes and that of its steps.
 pub fn plan_run(alloc: Global, diagram: &Diagram, order: &[usize]) -> Result<RunPlans, AllocError>
     requires { ListsDecisions diagram.now.nodes order.now }
     ensures plans { IfOk result (λ run. ArePlans diagram.now.nodes order.now run.decisions.items) }
@@ -128,8 +128,8 @@ pub fn plan_run(alloc: Global, diagram: &Diagram, order: &[usize]) -> Result<Run
     plan_run_by(alloc, diagram, &planner, order)
 }
 
-/// The same where plans are kept: those are copied, and only those of other decisions are made. Each decision of the order
-/// is looked for among what is kept.
+/// The same where plans are kept: those are copied, and only those of other decisions are made.
+/// Each decision of the order is looked for among what is kept.
 pub fn plan_run_with(
     alloc: Global,
     diagram: &Diagram,
@@ -147,8 +147,8 @@ pub fn plan_run_with(
     Ok(with_size(decisions, worths))
 }
 
-/// The size of a run that solves the decisions in this order: the greatest cells of its plans, and their work together.
-/// Each of its plans is made once, as `plan_run` tells, and let go.
+/// The size of a run that solves the decisions in this order: the greatest cells of its plans, and
+/// their work together. Each of its plans is made once, as `plan_run` tells, and let go.
 pub fn measure(alloc: Global, diagram: &Diagram, order: &[usize]) -> Result<Size, AllocError>
     requires { ListsDecisions diagram.now.nodes order.now }
     ensures { IfOk result (IsSizeOfRun diagram.now.nodes order.now) }

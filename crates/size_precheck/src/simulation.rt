@@ -111,8 +111,8 @@ pub fn put_first(states: &[u64], known: &mut Known, at: &NodeSet, table: &Table,
     }
 }
 
-/// Puts the table that v's step makes to each of these nodes, after the tables `gone` and the nodes `out` have left, and
-/// moves those of other cells than before to the classes of these.
+/// Puts the table that v's step makes to each of these nodes, after the tables `gone` and the nodes
+/// `out` have left, and moves those of other cells than before to the classes of these.
 fn put_made(
     states: &[u64],
     known: &mut Known,
@@ -144,7 +144,8 @@ fn put_made(
     Ok(())
 }
 
-/// Joins the tables that hold v, which waits no more, and puts the table over their joined set without v in their place.
+/// Joins the tables that hold v, which waits no more, and puts the table over their joined set
+/// without v in their place.
 pub fn eliminate(
     states: &[u64],
     known: &mut Known,

@@ -56,7 +56,8 @@ fn nodes_above_all(families: &[Family], ends: &NodeSet) -> NodeSet
     nodes
 }
 
-/// The nodes of a plan: those that are kept, and those from which a path of arcs leads to one of them or to the utility.
+/// The nodes of a plan: those that are kept, and those from which a path of arcs leads to one of
+/// them or to the utility.
 pub fn plan_nodes(
     diagram: &Diagram,
     families: &[Family],

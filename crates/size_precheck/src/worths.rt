@@ -29,8 +29,8 @@ pub(crate) fn worths_by(
     Ok(plans)
 }
 
-/// The plans of the worths of all utilities in text order. What they share is found once; `make_plan` tells what each of
-/// them costs.
+/// The plans of the worths of all utilities in text order. What they share is found once;
+/// `make_plan` tells what each of them costs.
 pub fn plan_worths(alloc: Global, diagram: &Diagram) -> Result<Vec<Plan>, AllocError>
     ensures { IfOk result (λ plans. ArePlansOfWorths diagram.now.nodes plans.items) }
 {

@@ -6,8 +6,8 @@ use Rattle.plan_sums.specs.Plans.{PlanView}
 use Rattle.eliminate.specs.Results.{plan_total}
 use Rattle.sample_diagrams.specs.Nodes.{chance_node, decision_node, utility_node}
 
--- a hidden node of weights 1 and 2, a signal of it, a decision that sees the signal, and a utility of the hidden node
--- and the decision
+-- a hidden node of weights 1 and 2, a signal of it, a decision that sees the signal, and a utility
+-- of the hidden node and the decision
 abbrev pub example_nodes : List NodeView
 example_nodes =
     chance_node 2 [] (pos 1 ∷ pos 2 ∷ [])

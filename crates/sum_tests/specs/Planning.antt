@@ -28,7 +28,8 @@ square_diagram = diagram_of (square_nodes ++ pay ∷ []) 1 0
 abbrev pub twice_paid : DiagramView
 twice_paid = diagram_of (square_nodes ++ pay ∷ pay ∷ []) 1 0
 
--- two chance nodes, a decision that sees nothing, and three utilities over the second of them and the decision
+-- two chance nodes, a decision that sees nothing, and three utilities over the second of them and
+-- the decision
 abbrev pub thrice_paid : DiagramView
 thrice_paid = diagram_of (
     chance_node 2 [] (pos 1 ∷ pos 1 ∷ [])
@@ -51,7 +52,8 @@ sighted_diagram = diagram_of (
 abbrev pub star_diagram : DiagramView
 star_diagram = diagram_of (decision_node 0 16 [] ∷ replicate 15 (decision_node 0 16 (0 ∷ []))) 1 0
 
--- a chance node that no decision sees, a decision, and utilities over both and over the chance node alone
+-- a chance node that no decision sees, a decision, and utilities over both and over the chance node
+-- alone
 abbrev pub blind_diagram : DiagramView
 blind_diagram = diagram_of (
     chance_node 2 [] (pos 1 ∷ pos 1 ∷ [])

@@ -1,5 +1,5 @@
-//! The tests of `size_precheck`, `factor_core` and `eliminate`: they stand apart since a crate that has tests is proved
-//! twice, with them and without.
+//! The tests of `size_precheck`, `factor_core` and `eliminate`: they stand apart since a crate that
+//! has tests is proved twice, with them and without.
 #![tactic(auto)]
 
 #[cfg(test)]

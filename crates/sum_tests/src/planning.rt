@@ -53,7 +53,8 @@ fn sighted(alloc: Global) -> Result<Diagram, AllocError>
     sample_diagram(alloc, &nodes, 1, 0)
 }
 
-/// A chance node that no decision sees, a decision, a utility over both, and one over the chance node alone.
+/// A chance node that no decision sees, a decision, a utility over both, and one over the chance
+/// node alone.
 fn blind(alloc: Global) -> Result<Diagram, AllocError>
     ensures { IfOk result (λ d. d ≡ blind_diagram) }
 {
@@ -117,8 +118,8 @@ fn plans_corners(alloc: Global) -> Result<bool, AllocError> {
     Ok(is_plan(&plan, &[3, 2], &[0, 1], size))
 }
 
-// The first joined sets have eight cells each. G goes first, with three tables, and makes H and B; then H, with two, makes
-// A and B; A, whose set has four cells now, makes B, and B the last cell.
+// The first joined sets have eight cells each. G goes first, with three tables, and makes H and B;
+// then H, with two, makes A and B; A, whose set has four cells now, makes B, and B the last cell.
 #[test]
 fn plans_of_a_square(rt: HostRuntime) -> Result<(), Fail> {
     let alloc = rt.alloc();
@@ -163,7 +164,8 @@ fn is_worth(plan: Option<&Plan>, utility: usize, steps: &[usize], size: Size) ->
     }
 }
 
-/// Whether the worths are planned as counted where the decision sees the chance node, by the plans where it doesn't.
+/// Whether the worths are planned as counted where the decision sees the chance node, by the plans
+/// where it doesn't.
 fn keeps_worths(alloc: Global) -> Result<bool, AllocError> {
     let before = plan_worths(alloc, &blind(alloc)?)?;
     let kept = keep_edited(alloc, &seeing(alloc)?, &before, 1)?;
@@ -176,15 +178,16 @@ fn keeps_worths(alloc: Global) -> Result<bool, AllocError> {
     Ok(is_worth(plans.first(), 2, &[0, 1], both) && is_worth(plans.last(), 3, &[0], alone))
 }
 
-// The first utility's plan has the decision's new rule, of four cells in place of two; the second is that of before: two
-// tables of two cells, one that the node makes, and the last cell.
+// The first utility's plan has the decision's new rule, of four cells in place of two; the second
+// is that of before: two tables of two cells, one that the node makes, and the last cell.
 #[test]
 fn worths_beside_an_edit(rt: HostRuntime) -> Result<(), Fail> {
     assert!(rt; keeps_worths(rt.alloc())?);
     Ok(())
 }
 
-/// Two chance nodes, a decision that sees nothing, and three utilities over the second chance node and the decision.
+/// Two chance nodes, a decision that sees nothing, and three utilities over the second chance node
+/// and the decision.
 fn thrice_paid(alloc: Global) -> Result<Diagram, AllocError>
     ensures { IfOk result (λ d. d ≡ thrice_paid) }
 {
@@ -220,8 +223,8 @@ fn sizes(alloc: Global) -> Result<[Size; 2], AllocError> {
     Ok([paid, sighted])
 }
 
-// A second utility like the first has the same plan again. In the other diagram the row's plan has 4 cells and work 2, that
-// of the states 10 and 8, and that of the worth 14 and 15.
+// A second utility like the first has the same plan again. In the other diagram the row's plan has
+// 4 cells and work 2, that of the states 10 and 8, and that of the worth 14 and 15.
 #[test]
 fn sizes_of_runs(rt: HostRuntime) -> Result<(), Fail> {
     let paid = Size {

@@ -16,8 +16,8 @@ use size_precheck::{Plan, make_plan};
 use std::alloc::{AllocError, Global};
 use std::test::Fail;
 
-/// A hidden node of weights 1 and 2, a signal of it, a decision that sees the signal, and a utility of the hidden node
-/// and the decision.
+/// A hidden node of weights 1 and 2, a signal of it, a decision that sees the signal, and a utility
+/// of the hidden node and the decision.
 fn make_example(alloc: Global) -> Result<Diagram, AllocError>
     ensures { IfOk result (λ d. d ≡ example) }
 {
@@ -30,8 +30,8 @@ fn make_example(alloc: Global) -> Result<Diagram, AllocError>
     sample_diagram(alloc, &nodes, 1, 0)
 }
 
-/// Whether the plan gives these cells in a workspace of exactly as many cells as it counts: in the second of two runs
-/// with the same lists, with a release between them.
+/// Whether the plan gives these cells in a workspace of exactly as many cells as it counts: in the
+/// second of two runs with the same lists, with a release between them.
 fn runs_twice<C: Cell + PartialEq>(
     alloc: Global,
     diagram: &Diagram,
@@ -80,8 +80,8 @@ fn gives<C: Cell + PartialEq>(
     runs_twice(alloc, &diagram, &profile, &plan, cells, want)
 }
 
-/// Whether the tables of the hidden node, the signal and the utility give these cells under uniform rules, with the
-/// hidden node summed out; none where that passes the limits.
+/// Whether the tables of the hidden node, the signal and the utility give these cells under uniform
+/// rules, with the hidden node summed out; none where that passes the limits.
 fn sums_to<C: Cell + PartialEq>(
     alloc: Global,
     cells: usize,
@@ -128,8 +128,8 @@ fn rows_of_a_decision(rt: HostRuntime) -> Result<(), Fail> {
     Ok(())
 }
 
-// At the signal's first state 1 * 3 * 4 - 2 * 2 * 1 and 2 * 2 * 5, at its second 1 * 1 * 4 - 2 * 2 * 1 and 2 * 2 * 5. The
-// decision's own rule is left out.
+// At the signal's first state 1 * 3 * 4 - 2 * 2 * 1 and 2 * 2 * 5, at its second 1 * 1 * 4 - 2 * 2
+// * 1 and 2 * 2 * 5. The decision's own rule is left out.
 #[test]
 fn states_of_a_decision(rt: HostRuntime) -> Result<(), Fail> {
     let alloc = rt.alloc();
@@ -140,7 +140,8 @@ fn states_of_a_decision(rt: HostRuntime) -> Result<(), Fail> {
     Ok(())
 }
 
-// The gains of all rows and states, and the mass 3 * 4 * 2. Without a table there is one world of weight 1.
+// The gains of all rows and states, and the mass 3 * 4 * 2. Without a table there is one world of
+// weight 1.
 #[test]
 fn worth_of_a_utility(rt: HostRuntime) -> Result<(), Fail> {
     let alloc = rt.alloc();
@@ -149,9 +150,9 @@ fn worth_of_a_utility(rt: HostRuntime) -> Result<(), Fail> {
     Ok(())
 }
 
-// At the signal's first state the masses 1 * 3 and 2 * 2, with the values 4 and -1 or 0 and 5, at its second 1 * 1 and
-// 2 * 2. The tables have 2, 4 and 4 cells, the step makes 4 of a joined set of 8 and three tables, and the product of
-// one table has 4.
+// At the signal's first state the masses 1 * 3 and 2 * 2, with the values 4 and -1 or 0 and 5, at
+// its second 1 * 1 and 2 * 2. The tables have 2, 4 and 4 cells, the step makes 4 of a joined set of
+// 8 and three tables, and the product of one table has 4.
 #[test]
 fn masses_and_gains_of_a_decision(rt: HostRuntime) -> Result<(), Fail> {
     let alloc = rt.alloc();

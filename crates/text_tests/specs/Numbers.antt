@@ -18,8 +18,8 @@ abbrev pub others_if : Bool → List ℕ
 others_if true = 1 ∷ []
 others_if false = []
 
--- a choice, a chance node and a utility over both, which the second agent may share; and beside them a chance node
--- and a utility of the second agent over it
+-- a choice, a chance node and a utility over both, which the second agent may share; and beside
+-- them a chance node and a utility of the second agent over it
 abbrev pub two_parts : Bool → Bool → Bool → DiagramView
 two_parts wide dear shared = diagram_of (
     decision_node 0 2 []

@@ -1,4 +1,5 @@
--- The diagram that reports and lines are of: a decision with two states and a utility, both of one agent.
+-- The diagram that reports and lines are of: a decision with two states and a utility, both of one
+-- agent.
 use Rattle.std.specs.Borrow.{Bor}
 use Rattle.std.specs.Global.{Vec}
 use Rattle.std.specs.Prelude.{◌≡◌, ℕ, List, [], ◌∷◌, codes, map, pos}

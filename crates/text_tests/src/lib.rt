@@ -1,5 +1,6 @@
-//! The tests of `net_lexer`, `net_parser`, `weight_scale`, `net_build`, `net_print`, `report_text` and `app_lines`: they
-//! stand apart since a crate that has tests is proved twice, with them and without.
+//! The tests of `net_lexer`, `net_parser`, `weight_scale`, `net_build`, `net_print`, `report_text`
+//! and `app_lines`: they stand apart since a crate that has tests is proved twice, with them and
+//! without.
 #![tactic(auto)]
 
 #[cfg(test)]

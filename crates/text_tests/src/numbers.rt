@@ -65,7 +65,8 @@ fn the_greatest_numeral_has_its_value(rt: HostRuntime) {
     );
 }
 
-// Each row has a text, and the number that its digits alone are: what isn't plain is left to the calls that read all.
+// Each row has a text, and the number that its digits alone are: what isn't plain is left to the
+// calls that read all.
 const PLAIN: &[(&str, Option<i128>)] = &[
     ("000000000000000000", Some(0)),
     ("999999999999999999", Some(999_999_999_999_999_999)),
@@ -260,8 +261,8 @@ fn others(shared: bool) -> &'static [usize]
     if shared { &[1] } else { &[] }
 }
 
-// A choice of the first agent, a chance node and a utility over both, which the second agent may share; and beside them
-// a chance node of 2^100 and a utility of the second agent over it.
+// A choice of the first agent, a chance node and a utility over both, which the second agent may
+// share; and beside them a chance node of 2^100 and a utility of the second agent over it.
 fn two_parts(alloc: Global, wide: bool, dear: bool, shared: bool) -> Result<Diagram, AllocError>
     ensures { IfOk result (λ d. d ≡ two_parts wide dear shared) }
 {

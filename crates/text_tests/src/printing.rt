@@ -17,7 +17,8 @@ potential (A) { data = (1 1 1); }
 potential (B | A) { data = (3 7 333333 666667 1 0); }
 ";
 
-// Escapes, an agent that isn't named, values with and without decimals, and potentials in another order.
+// Escapes, an agent that isn't named, values with and without decimals, and potentials in another
+// order.
 const MIXED: &str = "utility U { agent = \"A\\\\\"; } node C { states = (\"a\\\"\" \"b\"); }
 potential (C) { data = (2 6); } potential (U | C) { data = (0.50 -1.25); }
 decision D { states = (\"l\"); } utility V { } potential (V | C) { data = (-30 1e1); }";

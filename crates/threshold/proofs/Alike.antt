@@ -1,4 +1,5 @@
--- Diagrams that differ in the cells of chance nodes alone have the same scopes, and with the same totals the same bounds.
+-- Diagrams that differ in the cells of chance nodes alone have the same scopes, and with the same
+-- totals the same bounds.
 use Rattle.std.proofs.Common.{◌≡◌, ◌∙◌, ℕ, zero, suc, ◌*◌, ◌^◌, ◌<◌, ◌≤◌, max, true, ◌&&◌, ◌||◌, ◌==◌, List, ◌∷◌, length, filter, slice_index_or, refl, sym, ap, subst, inl, inr}
 use Rattle.std.proofs.Math.Path.{fun_ext}
 use Rattle.std.specs.List.{list_any, range_with_len}

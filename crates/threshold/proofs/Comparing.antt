@@ -1,4 +1,5 @@
--- Gains at any fraction are compared by those where the probability is 0 and 1, in the part of the decision's scope.
+-- Gains at any fraction are compared by those where the probability is 0 and 1, in the part of the
+-- decision's scope.
 use Rattle.std.proofs.Common.{◌≡◌, ◌↔◌, ◌∙◌, ℕ, ◌*◌, ◌<◌, not, List, filter, sym, ap, subst, ℤ, pos, ◌+ℤ◌, ◌-ℤ◌, ◌*ℤ◌, ◌≤ℤ◌, ◌<ℤ◌, arith}
 use Rattle.std.proofs.lemmas.Int.{ints}
 use Rattle.std.proofs.Math.Nat.{mul-pos}

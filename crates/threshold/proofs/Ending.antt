@@ -1,4 +1,5 @@
--- The table of a probability that is 0 or 1, over a common multiple of the table's total and of what the other states weigh.
+-- The table of a probability that is 0 or 1, over a common multiple of the table's total and of
+-- what the other states weigh.
 use Rattle.std.proofs.Common.{◌≡◌, ◌∙◌, ℕ, ◌+◌, ◌-◌, ◌*◌, ◌/◌, ◌%◌, ◌<◌, ◌≤◌, List, length, map, slice_index_or, slice_set, refl, sym, ap, subst, pos, nat_abs, ◌≤ℤ◌, ◌<ℤ◌, arith}
 use Rattle.std.proofs.lemmas.Int.{ints}
 use Rattle.std.proofs.Math.Nat.{mul-div_cancel', mul_comm}
@@ -25,7 +26,8 @@ use Rattle.threshold.specs.Weights.{IsCell, KeepsRange, new_weight, rewritten}
 use Rattle.threshold.proofs.Moves.{like, moved_kept}
 use Rattle.threshold.proofs.Tables.{is_place, one_at_most}
 
--- the diagram with the new table is one with the probability moved, of that total, and its weights are small enough
+-- the diagram with the new table is one with the probability moved, of that total, and its weights
+-- are small enough
 pub record Moves (d : DiagramView) (place : Place) (scales : Scales) (num whole : ℕ) : Type 0 where
   pub moved : IsMoved d.nodes place.node place.state place.row num 1 (rewritten d.nodes place scales)
   pub total : chance_total (rewritten d.nodes place scales) place.node ≡ whole

@@ -1,4 +1,5 @@
--- At a fraction the answer of a decision holds exactly where its choices are best in both ends' gains, mixed by the fraction.
+-- At a fraction the answer of a decision holds exactly where its choices are best in both ends'
+-- gains, mixed by the fraction.
 use Rattle.std.proofs.Common.{◌≡◌, ◌≢◌, ◌↔◌, ◌∙◌, ℕ, zero, suc, ◌+◌, ◌*◌, ◌<◌, ◌≤◌, cond, List, [], ◌∷◌, length, map, slice_index, slice_index_or, refl, sym, ap, subst, ℤ, ◌≤ℤ◌, None, arith}
 use Rattle.std.proofs.lemmas.List.{length-map}
 use Rattle.finite_sums.specs.Members.{Among}

@@ -1,4 +1,5 @@
--- Each plan has a size, so a run in the order of solving has one; where that is small enough, no plan has too many cells.
+-- Each plan has a size, so a run in the order of solving has one; where that is small enough, no
+-- plan has too many cells.
 use Rattle.std.proofs.Common.{ℕ, List, [], ◌∷◌, map, refl}
 use Rattle.std.specs.Prelude.{sum_by}
 use Rattle.std.specs.List.{AllZip}

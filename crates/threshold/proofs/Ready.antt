@@ -1,4 +1,5 @@
--- What a decision's sums in both ends tell: as many numbers as rows and states, all within the range, and at which fractions the answer holds.
+-- What a decision's sums in both ends tell: as many numbers as rows and states, all within the
+-- range, and at which fractions the answer holds.
 use Rattle.std.proofs.Common.{◌≡◌, ◌↔◌, ◌∙◌, ℕ, ◌*◌, ◌/◌, ◌%◌, ◌<◌, ◌≤◌, List, length, slice_index_or, sym, ap, subst, ℤ, pos, nat_abs, arith}
 use Rattle.std.proofs.lemmas.List.{get_or_past}
 use Rattle.std.proofs.lemmas.Nat.{div-add-mod'}

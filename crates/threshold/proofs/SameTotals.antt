@@ -1,4 +1,5 @@
--- The diagrams in which the probability is 0 and 1, and the diagram over the same total, keep the same bounds.
+-- The diagrams in which the probability is 0 and 1, and the diagram over the same total, keep the
+-- same bounds.
 use Rattle.std.proofs.Common.{◌≡◌, ◌≢◌, ◌∙◌, ℕ, zero, suc, ◌+◌, ◌*◌, ◌/◌, ◌<◌, List, [], ◌∷◌, map, length, slice_index_or, refl, sym, ap, subst, inr, Some, None, ℤ, pos, nat_abs, ◌-ℤ◌, ◌*ℤ◌, ◌<ℤ◌, arith}
 use Rattle.std.proofs.lemmas.Int.{ints}
 use Rattle.std.proofs.lemmas.List.{length-set}

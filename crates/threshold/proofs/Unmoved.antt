@@ -1,4 +1,5 @@
--- A decision that does not rely on a chance node's table weighs its states alike in all diagrams that differ there alone.
+-- A decision that does not rely on a chance node's table weighs its states alike in all diagrams
+-- that differ there alone.
 use Rattle.std.proofs.Common.{◌≡◌, ◌≢◌, ◌∙◌, ◌==◌, ℕ, ◌+◌, ◌*◌, ◌<◌, Bool, true, false, cond, ◌&&◌, eqb, List, [], ◌∷◌, map, length, slice_index_or, refl, sym, ap, subst, inr, ℤ, pos, ◌-ℤ◌, ◌*ℤ◌, ◌≤ℤ◌, ◌<ℤ◌, nat_abs, arith}
 use Rattle.std.proofs.lemmas.Int.{ints}
 use Rattle.std.proofs.Math.Decide.{ℕ_discrete, dec_lt}
@@ -184,7 +185,8 @@ module _ (nodes : List NodeView) (x state row : ℕ) (g : IsGraph nodes) (c : Ha
       there : IsDecision others d
       there = decision_there nodes others agent x r place.kind d kd
 
-  -- in a row with mass a state that gains no more than another gains no more where the table is moved
+  -- in a row with mass a state that gains no more than another gains no more where the table is
+  -- moved
   pub gains_no_more : (line choice other : ℕ) → choice < states_of nodes d → other < states_of nodes d → pos 0 <ℤ mass_at nodes base d line
       → gain_at nodes base d other line ≤ℤ gain_at nodes base d choice line → gain_at moved base d other line ≤ℤ gain_at moved base d choice line
   gains_no_more line choice other i j reached best = go (dec_lt 1 (states_of nodes d))

@@ -31,8 +31,8 @@ abbrev pub HoldsAtAll : List NodeView → List RuleView → Place → ℕ → �
 HoldsAtAll nodes s place num den =
     (d : ℕ) → IsDecision nodes d → HoldsAtFraction nodes s place d num den
 
--- a diagram with a small enough run, its answer, and the diagrams in which the probability is 0 and 1; somewhere the
--- answer holds
+-- a diagram with a small enough run, its answer, and the diagrams in which the probability is 0 and
+-- 1; somewhere the answer holds
 pub record IsThresholdSetting
     (d : DiagramView) (solved : SolvedView) (place : Place) (nought one : DiagramView) : Type 0
   where
@@ -60,7 +60,8 @@ pub record IsQuestion (q : Question) : Type 0 where
   pub setting : IsThresholdSetting q.diagram.now q.solved.now q.place q.nought.now q.one.now
   pub relevance : IsRelevance q.diagram.now.nodes q.relevance.now
 
--- the answer's decision does not rely on the node's table, and each of its rows is reached, or the state has weight
+-- the answer's decision does not rely on the node's table, and each of its rows is reached, or the
+-- state has weight
 pub record AnswerStands (q : Question) (answer : AnswerView) : Type 0 where
   pub free : IsFreeOf q.diagram.now.nodes answer.decision q.place.node
   pub reached : (pos 0 <ℤ state_weight q.diagram.now.nodes q.place.node q.place.state q.place.row)

@@ -14,8 +14,8 @@ use Rattle.threshold.specs.declared.weights.Place.{Place}
 abbrev pub place_pass : DiagramView → Place → Pass FaultView
 place_pass d place = span_pass d place.node place.state place.row
 
--- the table's total, what the other states of the row weigh, which is above nought, and their least common multiple,
--- within the range of totals
+-- the table's total, what the other states of the row weigh, which is above nought, and their least
+-- common multiple, within the range of totals
 pub record AreTotals (nodes : List NodeView) (place : Place) (totals : Totals) : Type 0 where
   pub table : totals.table ≡ chance_total nodes place.node
   pub others : pos totals.others ≡ others_weight nodes place.node place.state place.row

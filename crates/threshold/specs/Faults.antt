@@ -1,5 +1,5 @@
--- What refuses the question how far a probability may move: no other state of the row has weight, or the numbers of
--- the changed diagrams don't surely fit.
+-- What refuses the question how far a probability may move: no other state of the row has weight,
+-- or the numbers of the changed diagrams don't surely fit.
 use Rattle.std.specs.Prelude.{◌≡◌, ◌≢◌, ℕ, ◌<◌, ◌/◌, ℤ, List, map, slice_set, Option, Some, None, pos, ◌*ℤ◌, nat_abs}
 use Rattle.diagram_graph.specs.Edited.{with_nodes}
 use Rattle.first_fault.specs.Passes.{Pass, ◌▸◌, over, rule}
@@ -61,7 +61,8 @@ scoped_pass d None = bound_pass d None
 scoped_pass d (Some (WeightBound node)) = bound_pass d (Some (solver.WeightBound node))
 scoped_pass d (Some NoOthers) = ⊥
 
--- the multiple is within the range of totals, and with it in the place of x's total the weight bound is kept
+-- the multiple is within the range of totals, and with it in the place of x's total the weight
+-- bound is kept
 abbrev pub total_pass : DiagramView → ℕ → ℕ → Pass FaultView
 total_pass d x total =
     rule (greatest_number < total) (WeightBound (Some x)) ▸ scoped_pass (with_total d x total)

@@ -1,4 +1,5 @@
--- Intervals of fractions on which conditions hold, and how they get narrower. Only private functions cite it.
+-- Intervals of fractions on which conditions hold, and how they get narrower. Only private
+-- functions cite it.
 use Rattle.std.specs.Prelude.{◌≡◌, ◌↔◌, ℕ, ◌<◌, ◌≤◌, ◌*◌, ◌^◌, List, length, slice_index_or, ℤ, pos, ◌+ℤ◌, ◌-ℤ◌, ◌*ℤ◌, ◌≤ℤ◌}
 use Rattle.maid_model.specs.declared.answers.Row.{Row}
 use Rattle.maid_model.specs.Answers.{no_row}

@@ -18,7 +18,8 @@ abbrev pub TellsSpan : DiagramView → SolvedView → ℕ → ℕ → ℕ → In
 TellsSpan d solved x state row interval =
     IsSpan d.nodes (answered d solved) x state row interval.low interval.high
 
--- at each fraction of it the answered rules are subgame-perfect in the diagram with the probability moved there
+-- at each fraction of it the answered rules are subgame-perfect in the diagram with the probability
+-- moved there
 abbrev pub StaysPerfect : DiagramView → SolvedView → ℕ → ℕ → ℕ → Interval → Type 0
 StaysPerfect d solved x state row interval = (num den : ℕ) (moved : List NodeView) → 0 < den
     → num ≤ den → IsMoved d.nodes x state row num den moved → IsAtMost interval.low (pos num) den

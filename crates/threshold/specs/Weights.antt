@@ -1,4 +1,5 @@
--- A place of a chance table, and the weights of its table written anew. Only private functions cite it.
+-- A place of a chance table, and the weights of its table written anew. Only private functions cite
+-- it.
 use Rattle.std.specs.Prelude.{◌≡◌, ℕ, ◌<◌, ◌≤◌, ◌*◌, ◌/◌, ◌%◌, Bool, ◌==◌, if◌then◌else◌, List, map, pos, nat_abs, ℤ}
 use Rattle.std.specs.List.{range_with_len}
 use Rattle.diagram_graph.specs.Edited.{with_nodes}
@@ -17,8 +18,8 @@ pub record IsCell (nodes : List NodeView) (place : Place) : Type 0 where
   pub row : place.row < rows_of nodes place.node
   pub state : place.state < states_of nodes place.node
 
--- in other rows a weight is so many times as much; in the row the state weighs what is given, and each other state so
--- many times as much
+-- in other rows a weight is so many times as much; in the row the state weighs what is given, and
+-- each other state so many times as much
 abbrev pub scaled : Scales → Bool → Bool → ℕ → ℕ
 scaled scales in_row is_state weight = if in_row
     then (if is_state then scales.given else scales.each * weight)

@@ -34,8 +34,8 @@ struct Question<'a> {
 
 impl<'a> Question<'a> {
     /// Whether the answer surely holds at all fractions: its decision does not rely on the table of
-    /// the place's node, and all its rows are reached, or the place has weight, so that none becomes
-    /// reached.
+    /// the place's node, and all its rows are reached, or the place has weight, so that none
+    /// becomes reached.
     fn stands(&self, answer: &Answer) -> bool
         requires setting { IsQuestion self.now }
         requires answer { IsAnswerOf self.now.solved.now answer.now }
@@ -151,9 +151,9 @@ impl<'a> Question<'a> {
         Ok(held)
     }
 
-    /// The fractions from 0 to 1 at which all answers hold, by their decisions' gains. It makes what
-    /// all plans share, and goes over the decisions in the order of solving. It plans only those
-    /// whose answer may not hold at all fractions.
+    /// The fractions from 0 to 1 at which all answers hold, by their decisions' gains. It makes
+    /// what all plans share, and goes over the decisions in the order of solving. It plans only
+    /// those whose answer may not hold at all fractions.
     fn hold_by_gains(&self, alloc: Global) -> Result<Held, AllocError>
         requires { IsQuestion self.now }
         ensures range { IfOk result IsRange }

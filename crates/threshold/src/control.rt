@@ -1,4 +1,5 @@
-//! Which decisions rely on the table of a chance node, as they would on the rule of a decision in its place.
+//! Which decisions rely on the table of a chance node, as they would on the rule of a decision in
+//! its place.
 
 ghost use Rattle.std.specs.Prelude.{◌≡◌, ◌<◌, ◌↔◌, IsTrue, is_some, length};
 ghost use Rattle.std.specs.List.{list_all};
@@ -8,7 +9,8 @@ ghost use Rattle.threshold.specs.Control.{IsFreeOf};
 use bayes_ball::reach_from_goals;
 use maid_model::{Diagram, Row};
 
-/// Whether the decision does not rely on the node's table. It searches once, from the decision's goals.
+/// Whether the decision does not rely on the node's table. It searches once, from the decision's
+/// goals.
 pub(crate) fn is_free(diagram: &Diagram, decision: usize, node: usize) -> bool
     requires decision { IsDecision diagram.now.nodes decision }
     requires node { node < length diagram.now.nodes }

@@ -16,7 +16,8 @@ use std::alloc::{AllocError, Global};
 use weight_scale::{BoundPlace, bound};
 use whole_num::lcm_within;
 
-/// The total of a table, what the other states of a row weigh, and the least common multiple of both.
+/// The total of a table, what the other states of a row weigh, and the least common multiple of
+/// both.
 #[derive(Clone, Copy)]
 struct Totals {
     table: u128,

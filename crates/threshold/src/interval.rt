@@ -51,11 +51,11 @@ fn fraction(num: u128, den: u128) -> Ratio
 /// It makes the two diagrams in which the probability is 0 and 1, over the least common multiple of
 /// the table's total and of what the other states weigh. An answer holds at all fractions where its
 /// decision doesn't rely on the node's table, as it would on the rule of a decision in the node's
-/// place, unless one of its rows may become reached. If all do so, that is all. Else in both diagrams
-/// the gains of each other decision are summed, by elimination along the plans of `solve`, and two
-/// fractions are compared for each row and state that gains more than the choice in one of the two.
-/// Only such a decision is planned, once for both diagrams, and it leaves its workspaces to the
-/// next.
+/// place, unless one of its rows may become reached. If all do so, that is all. Else in both
+/// diagrams the gains of each other decision are summed, by elimination along the plans of `solve`,
+/// and two fractions are compared for each row and state that gains more than the choice in one of
+/// the two. Only such a decision is planned, once for both diagrams, and it leaves its workspaces
+/// to the next.
 ///
 /// # Errors
 ///

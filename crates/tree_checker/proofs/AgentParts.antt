@@ -1,4 +1,5 @@
--- The part of an agent's scope: the sum over its worlds has room, and the fraction is that of the whole.
+-- The part of an agent's scope: the sum over its worlds has room, and the fraction is that of the
+-- whole.
 use Rattle.std.proofs.Common.{◌≡◌, ◌↔◌, ℕ, ◌*◌, ◌^◌, ◌<◌, ◌≤◌, List, ap, sym, subst, arith, max}
 use Rattle.std.proofs.Math.Nat.{mul-le-mul_left, mul-pos, one-le-pow}
 use Rattle.maid_model.specs.declared.answers.Ratio.{Ratio}

@@ -1,4 +1,5 @@
--- The lines of a report: each answer begins below the one before it, so that a line has one row at most.
+-- The lines of a report: each answer begins below the one before it, so that a line has one row at
+-- most.
 use Rattle.std.proofs.Common.{◌≡◌, ◌≢◌, ◌∙◌, ℕ, zero, suc, ◌+◌, ◌*◌, ◌<◌, ◌≤◌, cond, eqb, true, false, Bool, ◌||◌, List, [], ◌∷◌, map, take, length, get_or, slice_index, refl, sym, ap, subst, inl, inr, arith}
 use Rattle.std.proofs.Math.Decide.{ℕ_discrete}
 use Rattle.std.proofs.Math.Nat.{mul-le-mul_left}

@@ -10,7 +10,8 @@ use Rattle.maid_model.specs.Accepted.{IsReliedFirst}
 use Rattle.maid_model.specs.Relevance.{ReliesOn}
 use Rattle.maid_model.specs.Views.{NodeView}
 
--- the set has the first n decisions of the order, each of which stands after those that it relies on
+-- the set has the first n decisions of the order, each of which stands after those that it relies
+-- on
 pub record PlacedSoFar (nodes : List NodeView) (order : List ℕ) (n : ℕ) (placed : NodeSet) : Type 0 where
   pub passed : (v : ℕ) → IsIn placed v ↔ Contains (take n order) v
   pub relied : (i e : ℕ) → i < n → ReliesOn nodes (slice_index order i) e → Contains (take i order) e

@@ -1,4 +1,5 @@
--- Products over nodes, made node by node: what is multiplied so far and what is still to come are the whole.
+-- Products over nodes, made node by node: what is multiplied so far and what is still to come are
+-- the whole.
 use Rattle.std.proofs.Common.{◌≡◌, ◌∙◌, ℕ, zero, suc, ◌+◌, ◌-◌, ◌*◌, ◌<◌, ◌≤◌, List, length, refl, sym, ap, arith, min}
 use Rattle.std.proofs.Math.Nat.{mul-le-mul_left, mul-le-mul_right, mul-pos, mul_assoc}
 use Rattle.std.proofs.Math.Decide.{dec_lt}
@@ -56,7 +57,8 @@ abbrev pub mass_from : List NodeView → List RuleView → ℕ → ℕ
 mass_from nodes p v = product_from (weight_total nodes p) (length nodes) v
 
 -- ---- worlds
--- the count so far is at most the end, and with the nodes still to come it stops where the whole count does
+-- the count so far is at most the end, and with the nodes still to come it stops where the whole
+-- count does
 pub record CountedSoFar (nodes : List NodeView) (count v : ℕ) : Type 0 where
   pub small : count ≤ COUNT_END
   pub rest : stopped (count * product_from (states_of nodes) (length nodes) v) ≡ stopped (world_count nodes)

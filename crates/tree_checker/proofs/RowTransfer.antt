@@ -1,4 +1,5 @@
--- Rows that are judged by the sums of a part are judged by those of the whole: a part decides as the whole does.
+-- Rows that are judged by the sums of a part are judged by those of the whole: a part decides as
+-- the whole does.
 use Rattle.std.proofs.Common.{◌≡◌, ◌∙◌, ◌⊎◌, ℕ, zero, suc, ◌+◌, ◌*◌, ◌^◌, ◌<◌, List, length, slice_index, slice_index_or, refl, sym, ap, subst, inl, inr, arith, ℤ, pos, ◌*ℤ◌, ◌≤ℤ◌, ◌<ℤ◌, nat_abs, Option, Some, None}
 use Rattle.std.proofs.lemmas.Int.{ints}
 use Rattle.maid_model.specs.declared.answers.Ratio.{Ratio}

@@ -1,4 +1,5 @@
--- Sums and products of signed numbers that went through their bits: while they are numbers of a diagram nothing is lost.
+-- Sums and products of signed numbers that went through their bits: while they are numbers of a
+-- diagram nothing is lost.
 use Rattle.std.proofs.Common.{◌≡◌, ◌∙◌, ℕ, ◌+◌, ◌*◌, ◌≤◌, ap, sym, subst, arith, ℤ, pos, ◌+ℤ◌, ◌*ℤ◌, nat_abs, FitsSigned, to_z, of_z}
 use Rattle.std.proofs.lemmas.Int.{to_z-of_z, unsigned_abs-mul}
 use Rattle.std.specs.Int.{w128}

@@ -1,4 +1,5 @@
--- What one world adds: the marked cells that it picks, one node after another, and its cell's new sums.
+-- What one world adds: the marked cells that it picks, one node after another, and its cell's new
+-- sums.
 use Rattle.std.proofs.Common.{◌≡◌, ◌∙◌, ℕ, ◌+◌, ◌-◌, ◌*◌, ◌<◌, ◌≤◌, cond, eqb, List, [], ◌∷◌, length, set, take, drop, sym, ap, subst, arith, ℤ, pos, ◌+ℤ◌, nat_abs, slice_index, slice_index_or, get_or-set_same, get_or-set_other}
 use Rattle.std.proofs.Math.Decide.{ℕ_discrete}
 use Rattle.std.proofs.Math.IntN.{+ℤ_assoc, +ℤ_idr}
@@ -97,7 +98,8 @@ mass_added masses cell t l c = go (ℕ_discrete c cell)
         ∙ sym (+ℤ_idr (pos (slice_index masses c)))
         ∙ ap (λ b. pos (slice_index masses c) +ℤ cond b (pos t) (pos 0)) (sym (eqb_no cell c (λ e. n (sym e))))
 
--- the one utility after a node: its value fits, and its product with the weight beside what the cell has
+-- the one utility after a node: its value fits, and its product with the weight beside what the
+-- cell has
 module _ (nodes : List NodeView) (marks : NodeSet) (utilities : MarksUtilities nodes marks) (u : ℕ) (inside : u < length nodes) (row m : ℕ) (q : ℤ) (gains : List ℤ) (masses : List ℕ) (room : CanAddWorld nodes (u ∷ []) m q gains masses) where
   pub more_le : nat_abs (q +ℤ value_at nodes marks u row) ≤ greatest_utility nodes
   more_le = go (nat_abs (q +ℤ value_at nodes marks u row)) (nat_abs q) (nat_abs (value_at nodes marks u row)) (greatest_at nodes u) (abs_add q (value_at nodes marks u row)) (cells_small nodes marks utilities u inside row) room.utility

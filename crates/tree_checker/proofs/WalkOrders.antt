@@ -1,4 +1,5 @@
--- A list of all nodes, each placed after its parents, can be walked down, and sums over it are sums over all nodes.
+-- A list of all nodes, each placed after its parents, can be walked down, and sums over it are sums
+-- over all nodes.
 use Rattle.std.proofs.Common.{◌≡◌, ◌≢◌, ◌∙◌, ◌⊎◌, ℕ, suc, ◌+◌, ◌*◌, ◌<◌, List, [], ◌∷◌, ◌++◌, length, take, slice_index, refl, sym, ap, subst, inl, inr, arith, ℤ, ◌+ℤ◌}
 use Rattle.std.proofs.lemmas.Int.{ints}
 use Rattle.finite_sums.specs.Members.{Among, Shuffled, none, put}
@@ -14,7 +15,8 @@ use Rattle.maid_model.specs.Views.{NodeView}
 use Rattle.tree_checker.specs.Walks.{IsDownward}
 
 -- ---- placed after the parents
--- each member is a node, stands neither in front nor before in the list, and its parents stand in one of these
+-- each member is a node, stands neither in front nor before in the list, and its parents stand in
+-- one of these
 record Placed (nodes : List NodeView) (Front : ℕ → Type 0) (vs : List ℕ) (k : ℕ) : Type 0 where
   within : slice_index vs k < length nodes
   not_front : Front (slice_index vs k) → ⊥

@@ -1,4 +1,5 @@
--- The last two weighing nodes of a walk: the first state of the one before, from which the others are counted.
+-- The last two weighing nodes of a walk: the first state of the one before, from which the others
+-- are counted.
 use Rattle.std.proofs.Common.{◌≡◌, ◌≢◌, ◌∙◌, ℕ, ◌<◌, List, [], ◌∷◌, Some, set, get_or, refl, sym, ap, subst, inl, ℤ}
 use Rattle.std.proofs.lemmas.List.{set-set}
 use Rattle.finite_sums.specs.Sums.{with_state}
@@ -15,7 +16,8 @@ use Rattle.tree_checker.specs.declared.settings.Before.{Before}
 use Rattle.tree_checker.specs.declared.settings.Last.{Last}
 use Rattle.tree_checker.proofs.WalkSteps.{WalkSoFar, set_is_world, set_world, walk_start}
 
--- a node that weighs something before the last one: the nodes of the pair, what it is, and the room that they need
+-- a node that weighs something before the last one: the nodes of the pair, what it is, and the room
+-- that they need
 module _ (last : Last) (before : Before) (is : last.before ≡ Some before) where
   pub pair_nodes : last_nodes last ≡ before.node ∷ last.node ∷ last.utility ∷ []
   pair_nodes = ap (λ b. with_before b (last.node ∷ last.utility ∷ [])) is

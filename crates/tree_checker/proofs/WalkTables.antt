@@ -1,4 +1,5 @@
--- What a walk uses of a diagram: at which nodes its factors and values look, what they add up to, and how large they get.
+-- What a walk uses of a diagram: at which nodes its factors and values look, what they add up to,
+-- and how large they get.
 use Rattle.std.proofs.Common.{◌≡◌, ◌∙◌, ◌⊎◌, ℕ, ◌<◌, ◌≤◌, Bool, true, false, cond, eqb, List, [], ◌∷◌, length, refl, sym, ap, subst, inl, inr, arith, pos, ◌≤ℤ◌, nat_abs, slice_index_or}
 use Rattle.std.proofs.lemmas.Int.{ints}
 use Rattle.std.proofs.lemmas.List.{get_or_past}

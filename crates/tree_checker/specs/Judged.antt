@@ -17,8 +17,8 @@ use Rattle.tree_checker.specs.declared.verdicts.Cause.{Cause}
 use Rattle.tree_checker.specs.declared.rows.RowFault.{RowFault}
 use Rattle.tree_checker.specs.Verdicts.{FailsIn, FailsRow, no_gain}
 
--- a gain for each row and state, the state fastest, and a mass for each row: the sums over the worlds of the diagram,
--- each with room
+-- a gain for each row and state, the state fastest, and a mass for each row: the sums over the
+-- worlds of the diagram, each with room
 pub record ListsSums
     (d : DiagramView) (p : List RuleView) (v : ℕ) (gains : List ℤ) (masses : List ℕ) : Type 0 where
   pub gain_count : length gains ≡ rows_of d.nodes v * states_of d.nodes v
@@ -76,8 +76,8 @@ ListsScopeSums d p v gains masses = ListsSums (part_diagram d (scope_of d.nodes 
 abbrev pub HoldsScopeSums : DiagramView → List RuleView → ℕ → RowSums → Type 0
 HoldsScopeSums d p v sums = ListsScopeSums d p v sums.gains.items sums.masses.items
 
--- a row passes whose states have these gains: with mass its choice is best and it is worth that, and without mass it
--- is marked
+-- a row passes whose states have these gains: with mass its choice is best and it is worth that,
+-- and without mass it is marked
 pub record PassesIn (gain : ℕ → ℤ) (states : ℕ) (mass : ℤ) (scale : ℕ) (r : Row) : Type 0 where
   pub best : pos 0 <ℤ mass → (s : ℕ) → s < states → gain s ≤ℤ gain r.choice
   pub worth : pos 0 <ℤ mass

@@ -9,7 +9,8 @@ use Rattle.tree_checker.specs.declared.verdicts.Verdict.{Verdict}
 use Rattle.tree_checker.specs.Verdicts.{IsVerdict}
 use Rattle.tree_checker.specs.Sound.{IsSound}
 
--- What a report can show has one verdict at most: so what is accepted isn't rejected, and only one line is named.
+-- What a report can show has one verdict at most: so what is accepted isn't rejected, and only one
+-- line is named.
 abbrev pub OneVerdict : Type 0
 OneVerdict =
     (d : DiagramView) (solved : SolvedView) (one other : Verdict) → FitsDiagram d solved

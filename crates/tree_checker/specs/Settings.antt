@@ -24,8 +24,8 @@ abbrev pub HasRoomIn : Setting → List ℕ → ℕ → ℤ → List ℤ → Lis
 HasRoomIn s vs product sum gains masses =
     HasRoomToWalk s.diagram.now.nodes s.profile.now s.left_out vs product sum gains masses
 
--- each cell's gain rises by weight times utilities, summed over the states of the listed nodes, where the others have
--- those of the world
+-- each cell's gain rises by weight times utilities, summed over the states of the listed nodes,
+-- where the others have those of the world
 abbrev pub AddsGains : Setting → List ℕ → ℕ → ℤ → List ℕ → List ℤ → List ℤ → Type 0
 AddsGains s vs product utility world before after = (c : ℕ) → slice_index_or after c (pos 0)
     ≡ slice_index_or before c (pos 0)
@@ -93,7 +93,8 @@ abbrev pub HasRoomToEnd : Setting → ℕ → ℤ → List ℤ → List ℕ → 
 HasRoomToEnd s product utility gains masses =
     HasRoomIn s (ending_of s) product utility gains masses
 
--- each cell's gain rises by what the last weighing nodes add, one or two of them, with their utility
+-- each cell's gain rises by what the last weighing nodes add, one or two of them, with their
+-- utility
 abbrev pub GainsByLast : Setting → Last → ℕ → ℤ → List ℕ → List ℤ → List ℤ → Type 0
 GainsByLast s last product utility world before after =
     AddsGains s (last_nodes last) product utility world before after

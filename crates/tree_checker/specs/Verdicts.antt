@@ -16,7 +16,8 @@ use Rattle.tree_checker.specs.declared.verdicts.Verdict.TheVariants.{Accepted, R
 abbrev pub line_count : AnswerView → ℕ
 line_count answer = 1 + length answer.rows
 
--- The lines are counted from 1. The first is the head and the second the order; then the answers stand in their order.
+-- The lines are counted from 1. The first is the head and the second the order; then the answers
+-- stand in their order.
 abbrev pub line_of_answer : SolvedView → ℕ → ℕ
 line_of_answer solved place = 3 + sum_by line_count (take place solved.answers)
 
@@ -32,9 +33,9 @@ line_of_gain solved agent = 3 + sum_by line_count solved.answers + agent
 abbrev pub HasBetter : (ℕ → ℤ) → ℕ → ℕ → Type 0
 HasBetter gain states choice = (s : ℕ) × (s < states) × (gain choice <ℤ gain s)
 
--- Why a row fails whose states have these gains. Never: it has mass and is marked, or has none and isn't. Else
--- Choice: it has mass, and some state has a greater gain. Else Worth: it isn't worth its choice's gain over the mass
--- and the scale.
+-- Why a row fails whose states have these gains. Never: it has mass and is marked, or has none and
+-- isn't. Else Choice: it has mass, and some state has a greater gain. Else Worth: it isn't worth
+-- its choice's gain over the mass and the scale.
 abbrev pub FailsIn : (ℕ → ℤ) → ℕ → ℤ → ℕ → Row → Cause → Type 0
 FailsIn gain states mass scale r Never =
     ((pos 0 <ℤ mass) × (r.worth ≡ None)) ⊎ ((mass ≡ pos 0) × IsSome r.worth)
@@ -51,7 +52,8 @@ abbrev pub FailsRow : List NodeView → ℕ → List RuleView → ℕ → ℕ �
 FailsRow nodes decimals base d row r cause = FailsIn (λ s. gain_at nodes base d s row)
     (states_of nodes d) (mass_at nodes base d row) (10 ^ decimals) r cause
 
--- the row fails of the decision at that place of the order, against the decision's base in the answered rules
+-- the row fails of the decision at that place of the order, against the decision's base in the
+-- answered rules
 pub record FailsAtRow
     (d : DiagramView) (solved : SolvedView) (place row : ℕ) (cause : Cause) : Type 0 where
   pub place_within : place < length solved.order
@@ -76,8 +78,8 @@ abbrev pub FailsInRows : DiagramView → SolvedView → ℕ → Cause → Type 0
 FailsInRows d solved line cause = (place : ℕ) × (row : ℕ) × (line ≡ line_of_row solved place row)
     × FailsAtRow d solved place row cause
 
--- The line fails for the cause: the second for the order, a row's for its choice, worth or mark, an agent's for its
--- gain.
+-- The line fails for the cause: the second for the order, a row's for its choice, worth or mark, an
+-- agent's for its gain.
 abbrev pub FailsLine : DiagramView → SolvedView → ℕ → Cause → Type 0
 FailsLine d solved line Order = (line ≡ 2) × (IsReliedFirst d.nodes solved.order → ⊥)
 FailsLine d solved line Choice = FailsInRows d solved line Choice
@@ -92,7 +94,8 @@ pub record FailsAtFirst
   pub fails : FailsLine d solved line cause
   pub first : (other : ℕ) (why : Cause) → FailsLine d solved other why → line ≤ other
 
--- The verdict on what a report shows: it is accepted, or names the first line that fails and the cause.
+-- The verdict on what a report shows: it is accepted, or names the first line that fails and the
+-- cause.
 abbrev pub IsVerdict : DiagramView → SolvedView → Verdict → Type 0
 IsVerdict d solved Accepted = IsAccepted d solved
 IsVerdict d solved (Rejected line cause) = FailsAtFirst d solved line cause

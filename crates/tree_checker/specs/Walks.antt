@@ -87,7 +87,8 @@ utility_with nodes marks vs utility w = utility +ℤ sum_each (λ v. marked_valu
 abbrev pub utility_in : List NodeView → NodeSet → List ℕ → ℤ → List ℕ → ℤ
 utility_in nodes marks vs utility world = utility_with nodes marks vs utility (world_of world)
 
--- the sum of weight times utilities over the states of the listed nodes, in the worlds that pick the cell c of d
+-- the sum of weight times utilities over the states of the listed nodes, in the worlds that pick
+-- the cell c of d
 abbrev pub gain_with : List NodeView → List RuleView → ℕ → NodeSet → List ℕ → ℕ → ℤ → ℕ → World → ℤ
 gain_with nodes p d marks vs product utility c w = sum_over (states_of nodes) vs
     (λ w.
@@ -100,7 +101,8 @@ abbrev pub mass_with : List NodeView → List RuleView → ℕ → List ℕ → 
 mass_with nodes p d vs product c w = sum_over (states_of nodes) vs
     (λ w. if cell_of nodes d w == c then weight_with nodes p d vs product w else pos 0) w
 
--- what one world with this weight adds to the cell c of d, with the marked utilities among the listed nodes
+-- what one world with this weight adds to the cell c of d, with the marked utilities among the
+-- listed nodes
 abbrev pub world_gain : List NodeView → ℕ → NodeSet → List ℕ → ℕ → ℤ → ℕ → World → ℤ
 world_gain nodes d marks vs product utility c w =
     if cell_of nodes d w == c then pos product *ℤ utility_with nodes marks vs utility w else pos 0
@@ -167,8 +169,8 @@ pub record IsWalkSetting
   pub marked : MarksUtilities d.nodes marks
   pub decision : out ≤ length d.nodes
 
--- the places of a world in the factors of v, in the rows of u and in the cells of the decision `out`, with v in its first
--- state
+-- the places of a world in the factors of v, in the rows of u and in the cells of the decision
+-- `out`, with v in its first state
 pub record ArePlaces (nodes : List NodeView) (out v u : ℕ) (w : World) (places : Places) : Type 0
   where
     pub factor : places.factor ≡ cell_of nodes v (with_state w v 0)

@@ -15,8 +15,8 @@ use maid_model::{Diagram, Profile, Rule, World, profile_has_rules};
 use node_sets::NodeSet;
 use std::alloc::{AllocError, Global};
 
-/// An agent of a diagram, a profile of it, and what walks down its nodes look at: all but the factors of the exchanged
-/// rules is made once.
+/// An agent of a diagram, a profile of it, and what walks down its nodes look at: all but the
+/// factors of the exchanged rules is made once.
 #[derive(Drop)]
 pub struct AgentSum {
     pub agent: usize,
@@ -70,8 +70,9 @@ impl AgentSum {
         })
     }
 
-    /// The sum, over all worlds of the diagram, of the world's weight under the rules times the agent's utilities. It goes
-    /// down the nodes once for each choice of states of those before, but for what has no weight, and takes no memory.
+    /// The sum, over all worlds of the diagram, of the world's weight under the rules times the
+    /// agent's utilities. It goes down the nodes once for each choice of states of those before,
+    /// but for what has no weight, and takes no memory.
     pub fn gain(&mut self, diagram: &Diagram) -> i128
         requires sum { IsAgentSum diagram.now.nodes self.old }
         requires fits { HasRoomForWeight diagram.now (mass diagram.now.nodes self.old.rules) }

@@ -22,7 +22,8 @@ pub(crate) fn copy_rule(alloc: Global, rule: &Rule, decision: usize) -> Result<R
     })
 }
 
-/// The base of the decision: the chosen rules at the decisions that it relies on, and uniform rules at all others.
+/// The base of the decision: the chosen rules at the decisions that it relies on, and uniform rules
+/// at all others.
 pub(crate) fn base_of(
     alloc: Global,
     diagram: &Diagram,

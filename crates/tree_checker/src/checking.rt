@@ -20,7 +20,8 @@ use part_laws::scoped_sums_fit;
 use relevance_graph::{Relevance, find_relevance};
 use std::alloc::{AllocError, Global};
 
-/// The verdict on a report whose order is right: the answers are looked at in their order, and then the gains.
+/// The verdict on a report whose order is right: the answers are looked at in their order, and then
+/// the gains.
 fn check_answers(
     alloc: Global,
     diagram: &Diagram,
@@ -58,14 +59,16 @@ fn check_answers(
     }
 }
 
-/// The verdict on a report of the diagram. It is accepted exactly where each decision stands in the order after those
-/// that it relies on; each row that its decision's base reaches names a state of greatest gain and its worth; each other
-/// row is marked as never reached; and each agent's expected utility is that of the answered rules. Else the verdict
-/// names the first line that fails, and why.
+/// The verdict on a report of the diagram. It is accepted exactly where each decision stands in the
+/// order after those that it relies on; each row that its decision's base reaches names a state of
+/// greatest gain and its worth; each other row is marked as never reached; and each agent's
+/// expected utility is that of the answered rules. Else the verdict names the first line that
+/// fails, and why.
 ///
-/// It takes the relevance graph, and for each decision and each agent goes by one walk down the nodes of the part that
-/// matters to it: through a node's states once for each choice of states of those before it that has weight. It may be
-/// asked where each scope keeps the weight bound and the diagram has no more than 1,048,576 worlds.
+/// It takes the relevance graph, and for each decision and each agent goes by one walk down the
+/// nodes of the part that matters to it: through a node's states once for each choice of states of
+/// those before it that has weight. It may be asked where each scope keeps the weight bound and the
+/// diagram has no more than 1,048,576 worlds.
 ///
 /// # Errors
 ///

@@ -18,7 +18,8 @@ use std::alloc::{AllocError, Global};
 /// What the states of a decision gain in each row, and how much mass each row has.
 #[derive(Drop)]
 pub(crate) struct RowSums {
-    /// A gain for each row and state, the first parent slowest and the decision's own state fastest.
+    /// A gain for each row and state, the first parent slowest and the decision's own state
+    /// fastest.
     pub gains: Vec<i128>,
     /// A mass for each row.
     pub masses: Vec<u128>,
@@ -63,7 +64,8 @@ fn row_masses(
     Ok(masses)
 }
 
-/// The gains and masses of the decision against the profile, over all worlds of the diagram, by one walk.
+/// The gains and masses of the decision against the profile, over all worlds of the diagram, by one
+/// walk.
 fn sums_over(
     alloc: Global,
     diagram: &Diagram,
@@ -85,7 +87,8 @@ fn sums_over(
     })
 }
 
-/// The gains and masses of the decision against the base, over the worlds of the part that the decision's scope makes.
+/// The gains and masses of the decision against the base, over the worlds of the part that the
+/// decision's scope makes.
 pub(crate) fn scope_sums(
     alloc: Global,
     diagram: &Diagram,

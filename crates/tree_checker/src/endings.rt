@@ -93,7 +93,8 @@ pub(crate) fn add_to_cell(
     masses[cell] += product;
 }
 
-/// Adds what one world has to the cell that it picks, with the marked utilities of the setting's tail.
+/// Adds what one world has to the cell that it picks, with the marked utilities of the setting's
+/// tail.
 pub(crate) fn add_world(
     setting: &Setting,
     world: &World,

@@ -26,8 +26,8 @@ fn weights_at<'a>(diagram: &Diagram, profile: &'a Profile, v: usize) -> &'a [u12
     }
 }
 
-/// The node's factor in the weight of the worlds that pick this cell: the chance cell or the rule's weight, and 1 at a
-/// utility and at the decision that is left out.
+/// The node's factor in the weight of the worlds that pick this cell: the chance cell or the rule's
+/// weight, and 1 at a utility and at the decision that is left out.
 fn factor_of(diagram: &Diagram, weights: &[u128], left_out: usize, v: usize, cell: usize) -> u128
     requires node { v < length diagram.now.nodes }
     requires cell { cell < cells_at diagram.now.nodes v }
@@ -66,7 +66,8 @@ fn factors_of(
     Ok(list)
 }
 
-/// For each node its factors. They take as much memory as the diagram's tables and the profile's rules.
+/// For each node its factors. They take as much memory as the diagram's tables and the profile's
+/// rules.
 pub(crate) fn all_factors(
     alloc: Global,
     diagram: &Diagram,

@@ -66,9 +66,10 @@ pub fn mass_of(diagram: &Diagram, profile: &Profile) -> u128
     mass
 }
 
-/// The sum, over all worlds of the diagram, of the world's weight under the profile times the agent's utilities. It lists
-/// the factors of each node, in as much memory as the tables and the rules take, and goes down the nodes once for each
-/// choice of states of those before, but for what has no weight.
+/// The sum, over all worlds of the diagram, of the world's weight under the profile times the
+/// agent's utilities. It lists the factors of each node, in as much memory as the tables and the
+/// rules take, and goes down the nodes once for each choice of states of those before, but for what
+/// has no weight.
 ///
 /// # Errors
 ///
@@ -89,8 +90,8 @@ pub fn gain_over(
     Ok(sums.gains[0])
 }
 
-/// Whether the fraction is what the chosen rules are worth to the agent, by the worlds of the part that the agent's
-/// utilities and their ancestors make, by one walk.
+/// Whether the fraction is what the chosen rules are worth to the agent, by the worlds of the part
+/// that the agent's utilities and their ancestors make, by one walk.
 fn is_gain(
     alloc: Global,
     diagram: &Diagram,

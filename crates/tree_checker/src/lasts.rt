@@ -15,7 +15,8 @@ use crate::strides::{cell_step, row_step};
 use maid_model::{Diagram, Kind, World};
 use node_sets::NodeSet;
 
-/// The places of the worlds that differ from this one by having the last weighing node in its first state.
+/// The places of the worlds that differ from this one by having the last weighing node in its first
+/// state.
 fn places_at(setting: &Setting, last: &Last, world: &World) -> Places
     requires setting { HoldsWalkSetting setting.now }
     requires last { IsLastIn setting.now last.now }
@@ -72,8 +73,9 @@ fn add_picked(
     add_to_cell(cell, product, more, gains, masses);
 }
 
-/// Adds what the worlds have that the states of the last weighing node make in the world, which has these places. From
-/// state to state the row and the cell are as far apart as the steps say, so that only the clauses look at the world.
+/// Adds what the worlds have that the states of the last weighing node make in the world, which has
+/// these places. From state to state the row and the cell are as far apart as the steps say, so
+/// that only the clauses look at the world.
 fn add_states(
     setting: &Setting,
     last: &Last,
@@ -115,8 +117,9 @@ fn add_states(
     }
 }
 
-/// Adds what the worlds have that the states of the last two weighing nodes make. Only at the first state of the node
-/// before the last are the places looked for; from there on they are as far apart as the steps say.
+/// Adds what the worlds have that the states of the last two weighing nodes make. Only at the first
+/// state of the node before the last are the places looked for; from there on they are as far apart
+/// as the steps say.
 fn add_pairs(
     setting: &Setting,
     last: &Last,
@@ -254,8 +257,8 @@ fn split_before<'a>(
     (order, None)
 }
 
-/// The nodes of the order that a walk goes down, and, where the tail is one marked utility, the last weighing nodes with
-/// it.
+/// The nodes of the order that a walk goes down, and, where the tail is one marked utility, the
+/// last weighing nodes with it.
 pub(crate) fn split_last<'a>(
     diagram: &Diagram,
     marks: &NodeSet,

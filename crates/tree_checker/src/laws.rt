@@ -7,7 +7,8 @@ pub fn verdicts_are_one()
     ensures { OneVerdict }
 {}
 
-/// The rules of an accepted report are subgame-perfect, and the optimum where one agent owns all decisions.
+/// The rules of an accepted report are subgame-perfect, and the optimum where one agent owns all
+/// decisions.
 pub fn accepted_reports_are_sound()
     ensures { AcceptedIsSound }
 {}

@@ -1,6 +1,6 @@
-//! The check of a finished report: whether its order, its choices, its marks and its numbers are right, by sums over
-//! worlds, each by one walk down the nodes. Beside the model, reduced fractions and the relevance graph it
-//! shares nothing with the solver.
+//! The check of a finished report: whether its order, its choices, its marks and its numbers are
+//! right, by sums over worlds, each by one walk down the nodes. Beside the model, reduced fractions
+//! and the relevance graph it shares nothing with the solver.
 #![tactic(auto)]
 
 mod agent_sums;

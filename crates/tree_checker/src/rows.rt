@@ -111,7 +111,8 @@ fn first_fault(rows: &[Row], sums: &RowSums, states: usize, scale: u128) -> Opti
     None
 }
 
-/// The first of the answered rows of the decision that fails against the decision's base in the chosen rules.
+/// The first of the answered rows of the decision that fails against the decision's base in the
+/// chosen rules.
 pub(crate) fn answer_fault(
     alloc: Global,
     diagram: &Diagram,

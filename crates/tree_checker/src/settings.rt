@@ -3,7 +3,8 @@
 use maid_model::{Diagram, Profile};
 use node_sets::NodeSet;
 
-/// What the last steps of a walk look at in a world, or how much further that is for each further state of a node.
+/// What the last steps of a walk look at in a world, or how much further that is for each further
+/// state of a node.
 #[derive(Clone, Copy, Drop)]
 pub(crate) struct Places {
     /// The place among the factors of the last node that weighs something.
@@ -44,7 +45,8 @@ pub(crate) struct Setting<'a> {
     pub factors: &'a [Vec<u128>],
     /// The utilities that count.
     pub marks: &'a NodeSet,
-    /// The decision whose cells are told apart, without its rule; the count of nodes where there is none.
+    /// The decision whose cells are told apart, without its rule; the count of nodes where there is
+    /// none.
     pub left_out: usize,
     /// The utilities that come last.
     pub tail: &'a [usize],

@@ -6,7 +6,8 @@ ghost use Rattle.tree_checker.specs.Walks.{cell_step, row_step};
 
 use maid_model::Diagram;
 
-/// How many rows further the node's row is for each further state of `by`; 0 where that is none of its parents.
+/// How many rows further the node's row is for each further state of `by`; 0 where that is none of
+/// its parents.
 pub(crate) fn row_step(diagram: &Diagram, node: usize, by: usize) -> usize
     requires { node < length diagram.now.nodes }
     ensures step { result ≡ row_step diagram.now.nodes node by }
@@ -20,8 +21,8 @@ pub(crate) fn row_step(diagram: &Diagram, node: usize, by: usize) -> usize
     step
 }
 
-/// How many cells further the cell that a world picks in the node is for each further state of `by`; 0 where there is
-/// no such node.
+/// How many cells further the cell that a world picks in the node is for each further state of
+/// `by`; 0 where there is no such node.
 pub(crate) fn cell_step(diagram: &Diagram, node: usize, by: usize) -> usize
     requires node { node ≤ length diagram.now.nodes }
     requires by { by < length diagram.now.nodes }

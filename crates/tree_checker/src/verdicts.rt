@@ -15,7 +15,8 @@ pub enum Cause {
     Gain,
 }
 
-/// What a check says: the report is accepted, or its first line that fails, counted from 1, and why that line does.
+/// What a check says: the report is accepted, or its first line that fails, counted from 1, and why
+/// that line does.
 #[derive(Clone, Copy, Debug, PartialEq, Eq)]
 pub enum Verdict {
     Accepted,

@@ -1,4 +1,5 @@
-//! Sums over worlds by a walk down the nodes, parents first: products and sums are carried from node to node.
+//! Sums over worlds by a walk down the nodes, parents first: products and sums are carried from
+//! node to node.
 
 ghost use Rattle.std.specs.Prelude.{◌≡◌, ◌*◌, ◌<◌, ◌≤◌, drop, IfOk, length, pos, replicate};
 ghost use Rattle.maid_model.specs.Diagrams.{IsDiagram};
@@ -20,10 +21,11 @@ use maid_model::{Diagram, Kind, Profile, World};
 use node_sets::NodeSet;
 use std::alloc::{AllocError, Global};
 
-/// Adds to each cell what the worlds with other states of the listed nodes and of those of the ending have there: to
-/// `gains` the weights times the marked utilities, and to `masses` the weights. It goes once through the states of a
-/// node for each choice of states of those before that has some weight, and calls itself once for each node of the
-/// order at most. It takes no memory.
+/// Adds to each cell what the worlds with other states of the listed nodes and of those of the
+/// ending have there: to `gains` the weights times the marked utilities, and to `masses` the
+/// weights. It goes once through the states of a node for each choice of states of those before
+/// that has some weight, and calls itself once for each node of the order at most. It takes no
+/// memory.
 fn walk(
     setting: &Setting,
     order: &[usize],
@@ -71,10 +73,12 @@ fn walk(
     }
 }
 
-/// The gains and masses of the cells of one decision, each the sum over the worlds that pick the cell.
+/// The gains and masses of the cells of one decision, each the sum over the worlds that pick the
+/// cell.
 #[derive(Drop)]
 pub(crate) struct CellSums {
-    /// For each cell the worlds' weights, without the decision's rule, times their marked utilities.
+    /// For each cell the worlds' weights, without the decision's rule, times their marked
+    /// utilities.
     pub gains: Vec<i128>,
     /// For each cell the worlds' weights alone.
     pub masses: Vec<u128>,
@@ -109,9 +113,10 @@ fn weighed(diagram: &Diagram, order: &[usize]) -> usize
     end
 }
 
-/// Adds to the cells of the decision that is left out, each of which has nothing yet, the gains and masses of all worlds
-/// of the diagram, with the nodes in this order and these factors of theirs. It goes down the nodes once for each choice
-/// of states of those before, but for what has no weight, and takes no memory.
+/// Adds to the cells of the decision that is left out, each of which has nothing yet, the gains and
+/// masses of all worlds of the diagram, with the nodes in this order and these factors of theirs.
+/// It goes down the nodes once for each choice of states of those before, but for what has no
+/// weight, and takes no memory.
 pub(crate) fn add_worlds(
     diagram: &Diagram,
     profile: &Profile,
@@ -151,9 +156,10 @@ pub(crate) fn add_worlds(
     walk(&setting, front, world, 1, 0, gains, masses);
 }
 
-/// The gains and masses of the cells of the decision that is left out, over all worlds of the diagram; where none is
-/// left out, the one cell has all worlds. It lists the factors of each node, in as much memory as the tables and the
-/// rules take, and goes down the nodes once for each choice of states of those before, but for what has no weight.
+/// The gains and masses of the cells of the decision that is left out, over all worlds of the
+/// diagram; where none is left out, the one cell has all worlds. It lists the factors of each node,
+/// in as much memory as the tables and the rules take, and goes down the nodes once for each choice
+/// of states of those before, but for what has no weight.
 pub(crate) fn cells_over(
     alloc: Global,
     diagram: &Diagram,

@@ -1,4 +1,5 @@
--- A numeral's decimal, or that it has none: the fewest tens that make the value whole are looked for among 0 to 30, and only the number that they make can be the decimal.
+-- A numeral's decimal, or that it has none: the fewest tens that make the value whole are looked
+-- for among 0 to 30, and only the number that they make can be the decimal.
 use Rattle.std.proofs.Common.{◌≡◌, ◌<◌, ◌≤◌, ◌+◌, ◌-◌, ◌*◌, ◌/◌, ◌^◌, ◌⊎◌, ⊎_elim, inl, inr, ℕ, zero, suc, unsigned_abs, Bool, true, false, List, length, refl, sym, ap, ◌∙◌, subst, arith}
 use Rattle.std.specs.Int.{◌∣◌}
 use Rattle.std.proofs.Math.Decide.{dec_dvd}

@@ -1,4 +1,5 @@
--- The set of an agent's scope where a node's state is given has the members that its definition lists.
+-- The set of an agent's scope where a node's state is given has the members that its definition
+-- lists.
 use Rattle.std.proofs.Common.{◌≡◌, ◌⊎◌, ◌↔◌, ℕ, ◌<◌, List, ◌∷◌, Contains, length, sym, subst, inl, inr}
 use Rattle.node_sets.specs.declared.sets.NodeSet.{NodeSet}
 use Rattle.node_sets.specs.Sets.{holds, IsIn}

@@ -24,7 +24,8 @@ shares_start row = record {
 }
 
 module _ (row : List ℤ) (i a s g : ℕ) (l : i < length row) (is : s ≡ unsigned_abs (get_or row i (pos 0))) (both : IsGcd a s g) (so_far : SharesFirst row i a) where
-  -- what divides all numbers divides the greatest common divisor of the divisor so far and the next number
+  -- what divides all numbers divides the greatest common divisor of the divisor so far and the next
+  -- number
   pub divides_more : (d : ℕ) → All (λ x. d ∣ unsigned_abs x) row → d ∣ g
   divides_more d all = both.2 d (so_far.divided d all) (subst (λ n. d ∣ n) (sym is) (all i (pos 0) l))
 

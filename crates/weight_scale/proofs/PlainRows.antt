@@ -1,4 +1,6 @@
--- Rows of one total whose numbers share no divisor are the weights of their table: what a row is divided by it is multiplied by again, as the least common multiple of the reduced rows' totals is the total of all.
+-- Rows of one total whose numbers share no divisor are the weights of their table: what a row is
+-- divided by it is multiplied by again, as the least common multiple of the reduced rows' totals is
+-- the total of all.
 use Rattle.std.proofs.Common.{◌≡◌, ◌<◌, ◌≤◌, ◌+◌, ◌-◌, ◌*◌, ◌/◌, ◌%◌, ◌^◌, ◌⊎◌, inl, inr, ℕ, ℤ, pos, negsuc, ◌≤ℤ◌, unsigned_abs, refl, sym, ap, ◌∙◌, arith, subst, List, [], ◌∷◌, All, map, length, get_or, take, drop, sum}
 use Rattle.std.specs.Int.{◌∣◌}
 use Rattle.std.specs.List.{drop-map}

@@ -1,4 +1,5 @@
--- A numeral of digits, a point and digits is what these write, over a ten for each behind the point.
+-- A numeral of digits, a point and digits is what these write, over a ten for each behind the
+-- point.
 use Rattle.std.proofs.Common.{◌≡◌, ◌+◌, ◌*◌, ◌^◌, ℕ, ℤ, Bool, true, false, List, [], ◌∷◌, ◌++◌, length, take, drop, arith, refl, sym, ap, ◌∙◌, Option, IfSome}
 use Rattle.std.specs.List.{list_all}
 use Rattle.std.specs.Prelude.{◌==◌, if◌then◌else◌}

@@ -49,7 +49,8 @@ all_decimals minus size decimals d last is =
     let sizes = (sizes_from_fraction minus d.m (10 ^ d.k) size (10 ^ decimals) (tens_positive decimals) is).1 in
     omega (arith, (by_tens (unsigned_abs d.m) size 0 decimals d.k last (omega (arith, sizes))).0)
 
--- what is a fraction with fewest decimals is each equal fraction with fewest decimals, and what is none is none of the equal ones
+-- what is a fraction with fewest decimals is each equal fraction with fewest decimals, and what is
+-- none is none of the equal ones
 module _ (minus : Bool) (num den num' den' : ℕ) (positive : 0 < den) (positive' : 0 < den') (same : num * den' ≡ num' * den) where
   least_of_same : (d : Decimal) → IsLeastDecimalOf (signed minus num) den d → IsLeastDecimalOf (signed minus num') den' d
   least_of_same d is = record {

@@ -1,4 +1,6 @@
--- The rows of a table have one scaling: each row has one reduced row, so the totals and their least common multiple are the same, and so is each row of weights. Nor is a table's common total too great where it has one.
+-- The rows of a table have one scaling: each row has one reduced row, so the totals and their least
+-- common multiple are the same, and so is each row of weights. Nor is a table's common total too
+-- great where it has one.
 use Rattle.std.proofs.Common.{◌≡◌, ◌<◌, ◌+◌, ◌*◌, ◌/◌, ℕ, zero, suc, sym, ap, ◌∙◌, arith, subst, List, ◌++◌, length, take, sum}
 use Rattle.std.specs.Int.{◌∣◌}
 use Rattle.std.proofs.Math.Nat.{zero-mul}

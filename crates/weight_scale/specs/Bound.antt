@@ -20,8 +20,8 @@ IsPassedByUtilities d =
     ((e : ℕ) × FailsFirst d e × (scope_product d.nodes e ≤ greatest_number))
     ⊎ ((agent : ℕ) × FailsFirstFor d agent × (scope_product_for d.nodes agent ≤ greatest_number))
 
--- Within: the bounds of all scopes hold. Node: the first that fails passes there. Utilities: it passes by its
--- utilities alone.
+-- Within: the bounds of all scopes hold. Node: the first that fails passes there. Utilities: it
+-- passes by its utilities alone.
 abbrev pub IsBoundPlace : DiagramView → BoundPlace → Type 0
 IsBoundPlace d Within = KeepsScopedBounds d
 IsBoundPlace d (Node v) = IsPassedAt d v

@@ -16,7 +16,8 @@ DecimalOrNone = (numeral : List ℕ) → ((d : Decimal) × IsLeastDecimalOf (num
     (denominator numeral) d)
     ⊎ ((d : Decimal) → IsDecimalOf (numerator numeral) (denominator numeral) d → ⊥)
 
--- rows without numbers below nought and of totals above nought have a scaling, or too great a common total
+-- rows without numbers below nought and of totals above nought have a scaling, or too great a
+-- common total
 abbrev pub ScaledOrTooWide : Type 0
 ScaledOrTooWide = (rows : List Decimal) (states : ℕ) → 0 < states → states ∣ length rows
     → NoneNegative rows → NoZeroRow rows states (length rows / states)

@@ -72,8 +72,8 @@ abbrev pub signed : Bool → ℕ → ℤ
 signed true size = neg_ℤ (pos size)
 signed false size = pos size
 
--- The value is the numerator over the denominator. Above stands the number that all digits write, with the numeral's
--- sign, and the tens of an exponent.
+-- The value is the numerator over the denominator. Above stands the number that all digits write,
+-- with the numeral's sign, and the tens of an exponent.
 abbrev pub numerator : List ℕ → ℤ
 numerator text =
     let exponent = exponent_of text in

@@ -10,16 +10,16 @@ use Rattle.weight_scale.specs.declared.scaling.Reduced.{Reduced}
 use Rattle.weight_scale.specs.declared.scaling.ScaleFault.{ScaleFault}
 use Rattle.weight_scale.specs.declared.scaling.ScaleFault.TheVariants.{Negative, ZeroRow, WideWeight, NoMemory}
 
--- A size, and at most 30 decimals: no number but noughts has more decimals, what divides all numbers, raised by these,
--- divides the size, and the size is nought only where all numbers are.
+-- A size, and at most 30 decimals: no number but noughts has more decimals, what divides all
+-- numbers, raised by these, divides the size, and the size is nought only where all numbers are.
 pub record IsFinest (row : List Decimal) (size decimals : ℕ) : Type 0 where
   pub few : decimals ≤ MOST_DECIMALS
   pub most : All (λ d. (unsigned_abs d.m ≡ 0) ⊎ (d.k ≤ decimals)) row
   pub divided : (g : ℕ) → All (λ d. g ∣ whole_number decimals d) row → g ∣ size
   pub nought : size ≡ 0 → All (λ d. unsigned_abs d.m ≡ 0) row
 
--- the number takes the place of the finest so far where it isn't nought and has more decimals, or is the first that
--- isn't nought
+-- the number takes the place of the finest so far where it isn't nought and has more decimals, or
+-- is the first that isn't nought
 abbrev pub IsFiner : ℕ → ℕ → Decimal → ℕ → ℕ → Type 0
 IsFiner size decimals d size' decimals' = ((size' ≡ size) × (decimals' ≡ decimals)
     × ((unsigned_abs d.m ≡ 0) ⊎ ((0 < size) × (d.k ≤ decimals))))

@@ -1,4 +1,5 @@
--- The rows of a chance table taken in proportion: reduced rows, their common total, and the weights.
+-- The rows of a chance table taken in proportion: reduced rows, their common total, and the
+-- weights.
 use Rattle.std.specs.Prelude.{◌≡◌, ◌<◌, ◌≤◌, ◌-◌, ◌*◌, ◌/◌, ◌^◌, ℕ, ℤ, pos, ◌≤ℤ◌, ◌<ℤ◌, unsigned_abs, List, map, length, take, drop, sum, All, slice_index_or}
 use Rattle.std.specs.Int.{◌∣◌}
 use Rattle.maid_model.specs.declared.limits.TheConstants.{MOST_DECIMALS}
@@ -12,7 +13,8 @@ use Rattle.weight_scale.specs.declared.scaling.ScaleFault.TheVariants.{Negative,
 abbrev pub row_at : {A : Type 0} → ℕ → List A → ℕ → List A
 row_at states cells r = take states (drop (r * states) cells)
 
--- the size of a number times ten to the power of `decimals`: a whole number, where it has no more decimals than that
+-- the size of a number times ten to the power of `decimals`: a whole number, where it has no more
+-- decimals than that
 abbrev pub whole_number : ℕ → Decimal → ℕ
 whole_number decimals d = unsigned_abs d.m * 10 ^ (decimals - d.k)
 
@@ -24,7 +26,8 @@ raised row = map (whole_number MOST_DECIMALS) row
 abbrev pub raised_row : ℕ → List Decimal → ℕ → List ℕ
 raised_row states rows r = raised (row_at states rows r)
 
--- the greatest common divisor: it divides each number, and each number that divides them all divides it
+-- the greatest common divisor: it divides each number, and each number that divides them all
+-- divides it
 pub record IsGreatestDivisor (xs : List ℕ) (g : ℕ) : Type 0 where
   pub divides : All (λ x. g ∣ x) xs
   pub greatest : (d : ℕ) → All (λ x. d ∣ x) xs → d ∣ g
@@ -67,8 +70,8 @@ NoZeroRow rows states count = (r : ℕ) → r < count → 0 < sum (raised_row st
 abbrev pub AreFaultless : List Decimal → ℕ → Type 0
 AreFaultless rows states = NoneNegative rows × NoZeroRow rows states (length rows / states)
 
--- the weights: no number is below nought, and each reduced row is multiplied so that its total is the least common
--- multiple of all totals
+-- the weights: no number is below nought, and each reduced row is multiplied so that its total is
+-- the least common multiple of all totals
 pub record IsScaled (rows : List Decimal) (states : ℕ) (scaled : ScaledView) : Type 0 where
   pub none_negative : NoneNegative rows
   pub reduced : List ℕ

@@ -54,14 +54,14 @@ abbrev pub IsScopeFor : List NodeView → ℕ → Scope → Type 0
 IsScopeFor nodes agent scope =
     IsScope nodes ChanceAlone (scope_for nodes agent) (utilities_for nodes agent) scope
 
--- a scope's product by these factors, times the greatest of the utilities' scale and the sum of the greatest values
--- of these utilities
+-- a scope's product by these factors, times the greatest of the utilities' scale and the sum of the
+-- greatest values of these utilities
 abbrev pub bound_in : DiagramView → (ℕ → ℕ) → List ℕ → List ℕ → ℕ
 bound_in d factor members utilities =
     nat_product_over factor members * max (10 ^ d.decimals) (greatest_of d.nodes utilities)
 
--- of one scope. Within: its bound holds. Node: it fails, and its product passes there. Utilities: it fails, and its
--- product is within the range.
+-- of one scope. Within: its bound holds. Node: it fails, and its product passes there. Utilities:
+-- it fails, and its product is within the range.
 abbrev pub IsPlaceInScope : DiagramView → (ℕ → ℕ) → List ℕ → List ℕ → BoundPlace → Type 0
 IsPlaceInScope d factor members utilities Within =
     bound_in d factor members utilities ≤ greatest_number
@@ -85,8 +85,8 @@ IsPlaceOf d v place =
 abbrev pub KeepsDecisionBounds : DiagramView → Type 0
 KeepsDecisionBounds d = (v : ℕ) → IsDecision d.nodes v → scope_bound d v ≤ greatest_number
 
--- of the decisions. Within: their bounds hold. Node: the first that fails passes there. Utilities: it passes by its
--- utilities alone.
+-- of the decisions. Within: their bounds hold. Node: the first that fails passes there. Utilities:
+-- it passes by its utilities alone.
 abbrev pub IsPlaceOfDecisions : DiagramView → BoundPlace → Type 0
 IsPlaceOfDecisions d Within = KeepsDecisionBounds d
 IsPlaceOfDecisions d (Node v) =

@@ -1,4 +1,5 @@
--- Significant digits, and the tens of their place. The parts of `numeral` speak of them; what it promises doesn't.
+-- Significant digits, and the tens of their place. The parts of `numeral` speak of them; what it
+-- promises doesn't.
 use Rattle.std.specs.Prelude.{◌≡◌, ◌≢◌, ◌<◌, ◌≤◌, ◌+◌, ◌-◌, ◌*◌, ◌%◌, ◌^◌, ℕ, ℤ, Bool, List, ◌∷◌, ◌++◌, true, length, replicate, slice_index}
 use Rattle.std.specs.List.{list_all}
 use Rattle.net_lexer.specs.Bytes.{is_digit}
@@ -7,7 +8,8 @@ use Rattle.weight_scale.specs.declared.decimal.Decimal.{Decimal}
 use Rattle.weight_scale.specs.declared.digits.TheConstants.{HALF_FEW}
 use Rattle.weight_scale.specs.declared.numerals.Scientific.{Scientific}
 
--- size * 10^above / 10^below is the number over 10^decimals, and the size doesn't end in nought but where it is nought
+-- size * 10^above / 10^below is the number over 10^decimals, and the size doesn't end in nought but
+-- where it is nought
 pub record IsSignificand (number decimals size above below : ℕ) : Type 0 where
   pub value : number * 10 ^ below ≡ size * 10 ^ (decimals + above)
   pub last : 0 < size → 0 < size % 10

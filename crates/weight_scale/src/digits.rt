@@ -148,7 +148,8 @@ pub(crate) fn append_digits(number: u128, digits: &[u8]) -> Option<u128>
 // The most digits that a number surely has room for in 64 bits.
 const FEW: usize = 18;
 
-// The number that the bytes write, where they are digits alone and few. It takes no step of 128 bits.
+// The number that the bytes write, where they are digits alone and few. It takes no step of 128
+// bits.
 pub(crate) fn few_digits(bytes: &[u8]) -> Option<u64>
     ensures { SomeIff result (AreFewDigits bytes.now) (number_of bytes.now) }
 {

@@ -1,8 +1,8 @@
 //! The numbers of a text made exact: `numeral` gives a numeral's value as a whole number and its
 //! decimals, `scale_rows` takes the rows of a chance table in proportion, and `bound` says whether
 //! the sums over the worlds that matter to a decision or an agent have room. `decision_scope` and
-//! `agent_scope` give the nodes that matter to them, and `scope_given` those that matter to an agent
-//! where a node's state is given.
+//! `agent_scope` give the nodes that matter to them, and `scope_given` those that matter to an
+//! agent where a node's state is given.
 #![tactic(auto)]
 
 mod decimal;

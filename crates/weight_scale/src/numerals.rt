@@ -30,7 +30,8 @@ struct Scientific {
     below: u128,
 }
 
-// The digits before and behind the point, without the noughts at their end, if they aren't too many.
+// The digits before and behind the point, without the noughts at their end, if they aren't too
+// many.
 fn significand(whole: &[u8], decimals: &[u8]) -> Option<Scientific>
     requires whole_digits { list_all is_digit whole.now ≡ true }
     requires decimal_digits { list_all is_digit decimals.now ≡ true }
@@ -134,9 +135,9 @@ impl Scientific {
 }
 
 /// The exact value of a numeral: the whole number and its decimals, of which there are as few as
-/// can be. `None` exactly where the value is no such number within the limits of `Decimal`.
-/// It goes over the text a few times and takes no memory; noughts at either end and the length of the exponent don't
-/// matter.
+/// can be. `None` exactly where the value is no such number within the limits of `Decimal`. It goes
+/// over the text a few times and takes no memory; noughts at either end and the length of the
+/// exponent don't matter.
 pub fn numeral(text: &[u8]) -> Option<Decimal>
     requires { is_numeral text.now ≡ true }
     ensures some { IfSome result (IsDecimalOfNumeral text.now) }
@@ -155,8 +156,8 @@ pub fn numeral(text: &[u8]) -> Option<Decimal>
     other_numeral(text)
 }
 
-/// The whole number that a numeral of at most 18 digits alone is: any other numeral has `None`. It takes no step of 128
-/// bits.
+/// The whole number that a numeral of at most 18 digits alone is: any other numeral has `None`. It
+/// takes no step of 128 bits.
 pub fn whole_numeral(text: &[u8]) -> Option<i128>
     ensures number { SomeIff result (AreFewDigits text.now) (pos (number_of text.now)) }
     ensures decimal { IfSome result (IsWholeNumeral text.now) }
@@ -166,7 +167,8 @@ pub fn whole_numeral(text: &[u8]) -> Option<i128>
     Some(i128::from(number))
 }
 
-// The decimal of a numeral that is few digits, a point and few digits, of which the last aren't noughts alone.
+// The decimal of a numeral that is few digits, a point and few digits, of which the last aren't
+// noughts alone.
 #[inline(never)]
 fn few_decimals(text: &[u8]) -> Option<Decimal>
     ensures some { IfSome result (IsDecimalOfNumeral text.now) }

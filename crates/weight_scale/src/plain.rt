@@ -59,10 +59,11 @@ fn common_total(cells: &[i128], states: usize) -> Option<u128>
     Some(total)
 }
 
-/// The common total of a chance table's rows, where its numbers are whole and are the table's weights as they stand: all
-/// rows have one total, within the limits, and the numbers of all rows together share no divisor but 1, so that the least
-/// common multiple of the reduced rows' totals is that total. Other rows have other weights or none, and `None` here. It
-/// stops at the first row of another total, and looks for divisors only until 1 is left.
+/// The common total of a chance table's rows, where its numbers are whole and are the table's
+/// weights as they stand: all rows have one total, within the limits, and the numbers of all rows
+/// together share no divisor but 1, so that the least common multiple of the reduced rows' totals
+/// is that total. Other rows have other weights or none, and `None` here. It stops at the first row
+/// of another total, and looks for divisors only until 1 is left.
 pub fn plain_total(cells: &[i128], states: usize) -> Option<u128>
     requires states { 0 < states }
     requires whole { states ∣ length cells.now }

@@ -107,7 +107,8 @@ fn push_shares(
     Ok(total)
 }
 
-// The number's size, raised by 10^decimals, if it isn't too great. Most numbers have as many decimals, and take no tens.
+// The number's size, raised by 10^decimals, if it isn't too great. Most numbers have as many
+// decimals, and take no tens.
 fn raised(number: Decimal, decimals: u32) -> Option<u128>
     requires { decimals ≤ MOST_DECIMALS }
     ensures { IsWithinRange result (whole_number decimals number) }

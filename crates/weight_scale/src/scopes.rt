@@ -16,7 +16,8 @@ use node_sets::{NodeSet, ancestors};
 use part_laws::parts_are_diagrams;
 use whole_num::{add_within, mul_within};
 
-/// Which nodes of a scope count in its product: in an agent's the chance nodes, in a decision's the decisions too.
+/// Which nodes of a scope count in its product: in an agent's the chance nodes, in a decision's the
+/// decisions too.
 #[derive(Clone, Copy)]
 pub(crate) enum Counted {
     ChanceAndDecisions,
@@ -31,8 +32,9 @@ pub(crate) struct Scope {
     utilities: NodeSet,
 }
 
-/// The scope of a decision: the nodes from which a path of nought or more arcs leads to it, or to a utility of its agent
-/// that descends from it. It takes no memory, and looks at each node a few times.
+/// The scope of a decision: the nodes from which a path of nought or more arcs leads to it, or to a
+/// utility of its agent that descends from it. It takes no memory, and looks at each node a few
+/// times.
 pub fn decision_scope(diagram: &Diagram, decision: usize) -> NodeSet
     requires { IsDecision diagram.now.nodes decision }
     ensures { (v : ℕ) → IsIn result v ↔ Contains (scope_of diagram.now.nodes decision) v }
@@ -55,16 +57,17 @@ fn scope_of_goals(diagram: &Diagram, decision: usize, goals: NodeSet) -> NodeSet
     scope
 }
 
-/// The scope of an agent: the nodes from which a path of nought or more arcs leads to one of its utilities. It takes no
-/// memory, and looks at each node a few times.
+/// The scope of an agent: the nodes from which a path of nought or more arcs leads to one of its
+/// utilities. It takes no memory, and looks at each node a few times.
 pub fn agent_scope(diagram: &Diagram, agent: usize) -> NodeSet
     ensures { (v : ℕ) → IsIn result v ↔ Contains (scope_for diagram.now.nodes agent) v }
 {
     ancestors(diagram, diagram.utilities_of(agent))
 }
 
-/// The scope of an agent where a node's state is given: the nodes from which a path of nought or more arcs leads to the
-/// node or to one of the agent's utilities. It takes no memory, and looks at each node a few times.
+/// The scope of an agent where a node's state is given: the nodes from which a path of nought or
+/// more arcs leads to the node or to one of the agent's utilities. It takes no memory, and looks at
+/// each node a few times.
 pub fn scope_given(diagram: &Diagram, node: usize, agent: usize) -> NodeSet
     requires { node < length diagram.now.nodes }
     ensures { (v : ℕ) → IsIn result v ↔ Contains (scope_given diagram.now.nodes node agent) v }
@@ -75,7 +78,8 @@ pub fn scope_given(diagram: &Diagram, node: usize, agent: usize) -> NodeSet
     ancestors(diagram, ends)
 }
 
-/// The scope of the node, if it is a decision: what leads to it, or to a utility of its agent that descends from it.
+/// The scope of the node, if it is a decision: what leads to it, or to a utility of its agent that
+/// descends from it.
 pub(crate) fn scope_of(diagram: &Diagram, v: usize) -> Option<Scope>
     requires { v < length diagram.now.nodes }
     ensures { IsScopeIfDecision diagram.now.nodes v result }
@@ -116,8 +120,8 @@ fn greatest_abs(cells: &[i128]) -> u128
 }
 
 impl Scope {
-    // With what a node of the scope counts in its product: a chance node with its total, a decision with
-    // the count of its states where decisions count.
+    // With what a node of the scope counts in its product: a chance node with its total, a decision
+    // with the count of its states where decisions count.
     fn factor(&self, diagram: &Diagram, v: usize) -> u128
         requires { v < length diagram.now.nodes }
         ensures { result ≡ factor_by self.now.counted diagram.now.nodes v }
@@ -177,8 +181,9 @@ impl Scope {
     }
 }
 
-/// Where the weight bound of an agent's scope fails where a node's state is given. It takes no memory; it goes over all
-/// arcs a few times, and once over the cells of the agent's utilities and the first row of the scope's chance tables.
+/// Where the weight bound of an agent's scope fails where a node's state is given. It takes no
+/// memory; it goes over all arcs a few times, and once over the cells of the agent's utilities and
+/// the first row of the scope's chance tables.
 pub fn place_given(diagram: &Diagram, node: usize, agent: usize) -> BoundPlace
     requires { node < length diagram.now.nodes }
     ensures { IsPlaceGiven diagram.now node agent result }

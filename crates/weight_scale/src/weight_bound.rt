@@ -60,9 +60,9 @@ fn place_of_agents(diagram: &Diagram) -> BoundPlace
 /// Where the weight bound of the diagram fails. It is tried for the scope of each decision in text
 /// order, then for that of each agent; the first that fails counts. Its place is the first node of
 /// the scope up to which the product of the chance totals, and in a decision's scope of the
-/// decisions' counts of states too, passes 2^126 - 1, or else the utilities. It takes no memory; for
-/// each decision and each agent it looks at each node a few times, and once over the cells of the
-/// scope's utilities and the first row of its chance tables.
+/// decisions' counts of states too, passes 2^126 - 1, or else the utilities. It takes no memory;
+/// for each decision and each agent it looks at each node a few times, and once over the cells of
+/// the scope's utilities and the first row of its chance tables.
 pub fn bound(diagram: &Diagram) -> BoundPlace
     ensures place { IsBoundPlace diagram.now result }
     ensures only { (place : BoundPlace) → IsBoundPlace diagram.now place → place ≡ result }

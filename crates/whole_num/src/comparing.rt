@@ -5,8 +5,9 @@ ghost use Rattle.whole_num.specs.Fractions.{fraction_order};
 
 use std::cmp::Ordering;
 
-/// The order of a/b and c/d, found by whole parts and rests, since the products across may be wider than 128 bits. It
-/// divides as often as Euclid's algorithm does for the shorter of the two fractions.
+/// The order of a/b and c/d, found by whole parts and rests, since the products across may be wider
+/// than 128 bits. It divides as often as Euclid's algorithm does for the shorter of the two
+/// fractions.
 pub fn compare_parts(a: u128, b: u128, c: u128, d: u128) -> Ordering
     requires b_positive { 0 < b }
     requires d_positive { 0 < d }
@@ -22,7 +23,8 @@ pub fn compare_parts(a: u128, b: u128, c: u128, d: u128) -> Ordering
         if rest == 0 || beyond == 0 {
             return rest.cmp(&beyond);
         }
-        // Of equal whole parts the rests decide: rest/b stands to beyond/d as d/beyond does to b/rest.
+        // Of equal whole parts the rests decide: rest/b stands to beyond/d as d/beyond does to
+        // b/rest.
         (a, b, c, d) = (d, beyond, b, rest);
     }
 }

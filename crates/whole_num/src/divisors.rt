@@ -6,9 +6,9 @@ ghost use Rattle.whole_num.specs.Divisors.{IsGcd, IsLcm};
 use crate::halving::gcd_small;
 use crate::mul_within;
 
-/// The greatest common divisor; of 0 and 0 it is 0. While a number has more than 64 bits by Euclid's
-/// algorithm: at most five divisions for each decimal digit of the smaller number. From then on it
-/// shifts and subtracts, and two numbers of 64 bits are never divided.
+/// The greatest common divisor; of 0 and 0 it is 0. While a number has more than 64 bits by
+/// Euclid's algorithm: at most five divisions for each decimal digit of the smaller number. From
+/// then on it shifts and subtracts, and two numbers of 64 bits are never divided.
 pub fn gcd(a: u128, b: u128) -> u128
     ensures greatest { IsGcd a b result }
     ensures positive { 0 < a + b → 0 < result }

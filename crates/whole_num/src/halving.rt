@@ -5,7 +5,8 @@ ghost use Rattle.std.specs.Prelude.{◌≡◌, ◌<◌, ◌≤◌, ◌*◌, ◌/
 ghost use Rattle.std.specs.Int.{◌∣◌};
 ghost use Rattle.whole_num.specs.Divisors.{IsGcd};
 
-/// The greatest common divisor of an odd number and another, by shifts and differences (Stein 1967).
+/// The greatest common divisor of an odd number and another, by shifts and differences (Stein
+/// 1967).
 fn odd_gcd(odd: u64, other: u64) -> u64
     requires { odd % 2 ≡ 1 }
     ensures { IsGcd odd other result }

@@ -14,12 +14,12 @@
 //! | `shelf piece N`, `out piece N`, `err piece N` | lets a call of the device move at most N bytes |
 //! | `show P ..` | runs the row and prints `status N`, and then the parts that P .. name |
 //!
-//! The parts are `out` and `err`, all lines of a sink, and `first` and `last`, the first and the last
-//! line of `out`. A line is printed behind the part's name.
+//! The parts are `out` and `err`, all lines of a sink, and `first` and `last`, the first and the
+//! last line of `out`. A line is printed behind the part's name.
 //!
 //! A text stands for itself and the end of a line; where it ends in `\`, it stands for what is
-//! before the `\` and nothing more. In texts, printed lines too, `%HH` is the byte with these hexadecimal
-//! digits: so are `%`, `\` and whatever is no plain ASCII character written.
+//! before the `\` and nothing more. In texts, printed lines too, `%HH` is the byte with these
+//! hexadecimal digits: so are `%`, `\` and whatever is no plain ASCII character written.
 #![tactic(auto)]
 
 mod printed;

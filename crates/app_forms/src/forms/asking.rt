@@ -1,4 +1,5 @@
-//! What `info` and `control` share: the agent that is asked about, the first line, and what an edit is worth in words.
+//! What `info` and `control` share: the agent that is asked about, the first line, and what an edit
+//! is worth in words.
 
 ghost use Rattle.std.specs.Prelude.{◌≡◌, IfOk, IfErr, length};
 ghost use Rattle.first_fault.specs.Answers.{IsFaultOrNoMemory};

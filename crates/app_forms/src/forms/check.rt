@@ -40,13 +40,13 @@ fn keep_bound(alloc: Global, diagram: &Diagram, names: &Names) -> Result<(), Ref
     }
 }
 
-/// The diagram that the bytes of a check's first file stand for, and the names in it. It keeps the weight bound and the
-/// limit of leaves.
+/// The diagram that the bytes of a check's first file stand for, and the names in it. It keeps the
+/// weight bound and the limit of leaves.
 ///
 /// # Errors
 ///
-/// The fault of the bytes, the place at which the weight bound is passed, the leaves where they are too many, or want of
-/// memory.
+/// The fault of the bytes, the place at which the weight bound is passed, the leaves where they are
+/// too many, or want of memory.
 pub fn examine(alloc: Global, name: &str, bytes: &[u8]) -> Result<(Diagram, Names), Refusal>
     ensures ok { IfOk result (λ built. IsExamined bytes.now built.0 built.1) }
     ensures err { IfErr result (TellsOf (comes_of examining name.now bytes.now)) }
@@ -127,7 +127,8 @@ fn bad_report(
     }
 }
 
-/// The verdict on the report that the bytes of a check's second file are, of the diagram in the first.
+/// The verdict on the report that the bytes of a check's second file are, of the diagram in the
+/// first.
 ///
 /// # Errors
 ///

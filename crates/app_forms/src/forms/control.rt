@@ -57,8 +57,8 @@ fn control_text(
     Ok(text)
 }
 
-/// What control is worth to the agent of that name in the diagram, and which incentives it has: a line for each chance
-/// node.
+/// What control is worth to the agent of that name in the diagram, and which incentives it has: a
+/// line for each chance node.
 ///
 /// # Errors
 ///

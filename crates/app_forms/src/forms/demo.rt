@@ -38,7 +38,8 @@ fn summary(
     )
 }
 
-/// The summary of the solved diagram of the generated text of `k` stages. It is solved as that of a file is.
+/// The summary of the solved diagram of the generated text of `k` stages. It is solved as that of a
+/// file is.
 ///
 /// # Errors
 ///

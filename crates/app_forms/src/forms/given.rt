@@ -72,7 +72,8 @@ fn states_of(diagram: &Diagram, node: usize) -> usize
     diagram.node(node).states
 }
 
-// Whether under these parents the node is one, and in its state, in the row of that number. `rows` counts the rows.
+// Whether under these parents the node is one, and in its state, in the row of that number. `rows`
+// counts the rows.
 fn shows(
     diagram: &Diagram,
     parents: &[usize],
@@ -214,14 +215,15 @@ fn given_text(
     Ok(text)
 }
 
-/// The answer of the diagram where the chance node of that name is known to have the state with that label and every
-/// decision sees it: each decision's rows with that state, and what the plan is worth to each agent where the node has
-/// it.
+/// The answer of the diagram where the chance node of that name is known to have the state with
+/// that label and every decision sees it: each decision's rows with that state, and what the plan
+/// is worth to each agent where the node has it.
 ///
 /// # Errors
 ///
-/// An unknown node or state, a node below a decision, too large rules, the relevance cycle, the place at which the weight
-/// bound is passed, the cells and the work of a run that passes a limit, impossible evidence, or want of memory.
+/// An unknown node or state, a node below a decision, too large rules, the relevance cycle, the
+/// place at which the weight bound is passed, the cells and the work of a run that passes a limit,
+/// impossible evidence, or want of memory.
 pub fn answer(
     alloc: Global,
     diagram: &Diagram,

@@ -51,8 +51,8 @@ fn info_text(
     Ok(text)
 }
 
-/// What information is worth to the agent of that name in the diagram: a line for each of its decisions and each other
-/// node that the decision sees or might see.
+/// What information is worth to the agent of that name in the diagram: a line for each of its
+/// decisions and each other node that the decision sees or might see.
 ///
 /// # Errors
 ///

@@ -108,8 +108,8 @@ fn find_interval(
     }
 }
 
-// The node, the row, the state and its probability, and the ends of the interval. An interval has a field `now`, so the
-// clause says whose value it means.
+// The node, the row, the state and its probability, and the ends of the interval. An interval has a
+// field `now`, so the clause says whose value it means.
 fn threshold_text<'a>(
     alloc: Global,
     names: &'a Names,

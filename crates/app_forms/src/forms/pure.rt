@@ -64,8 +64,8 @@ fn pure_text(
 ///
 /// # Errors
 ///
-/// The place at which the weight bound is passed, the counts of profiles and leaves where they are too many, how many
-/// pure profiles there are where none is an equilibrium, or want of memory.
+/// The place at which the weight bound is passed, the counts of profiles and leaves where they are
+/// too many, how many pure profiles there are where none is an equilibrium, or want of memory.
 pub fn answer(alloc: Global, diagram: &Diagram, names: &Names) -> Result<Vec<u8>, Refusal>
     requires { NamesFit diagram.now names.now }
     ensures ok { IfOk result (Prints searching diagram.now names.now) }

@@ -44,8 +44,8 @@ fn refusal(alloc: Global, diagram: &Diagram, names: &Names, fault: &SolveFault) 
 ///
 /// # Errors
 ///
-/// The relevance cycle, the place at which the weight bound is passed, the cells and the work of a run that passes a
-/// limit, or want of memory.
+/// The relevance cycle, the place at which the weight bound is passed, the cells and the work of a
+/// run that passes a limit, or want of memory.
 pub fn solve_by_graph(
     alloc: Global,
     diagram: &Diagram,

@@ -30,8 +30,8 @@ fn trimmed_text(
     Ok(text)
 }
 
-/// The arcs of the diagram that its decisions do not need, a comment line each, and then the text of the diagram without
-/// them. The whole stands for the trimmed diagram and the same names.
+/// The arcs of the diagram that its decisions do not need, a comment line each, and then the text
+/// of the diagram without them. The whole stands for the trimmed diagram and the same names.
 ///
 /// # Errors
 ///

@@ -70,13 +70,13 @@ fn update_text(
     )
 }
 
-/// The result of updating the diagram (Lauritzen and Nilsson 2001), and what it is worth to each agent. A run takes at
-/// most 10,000 rounds.
+/// The result of updating the diagram (Lauritzen and Nilsson 2001), and what it is worth to each
+/// agent. A run takes at most 10,000 rounds.
 ///
 /// # Errors
 ///
-/// Two owners of decisions, the place at which the weight bound is passed, the cells and the work of a run that passes a
-/// limit, rounds that all raise, or want of memory.
+/// Two owners of decisions, the place at which the weight bound is passed, the cells and the work
+/// of a run that passes a limit, rounds that all raise, or want of memory.
 pub fn answer(alloc: Global, diagram: &Diagram, names: &Names) -> Result<Vec<u8>, Refusal>
     requires { NamesFit diagram.now names.now }
     ensures ok { IfOk result (Prints updating diagram.now names.now) }

@@ -3,7 +3,8 @@ use Rattle.node_sets.specs.Sets.{IsIn}
 use Rattle.eliminate.specs.Places.{rank_of}
 use Rattle.eliminate.proofs.places.first_of.Given as goal
 
--- no node so far has a lower rank than the least, which is that of the first one where it is one of the steps'
+-- no node so far has a lower rank than the least, which is that of the first one where it is one of
+-- the steps'
 abbrev pub invariant-nodes : goal.invariant-nodes
 invariant-nodes l =
     (l.least ≤ l.order.count)

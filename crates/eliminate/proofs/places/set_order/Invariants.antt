@@ -6,8 +6,8 @@ use Rattle.eliminate.proofs.places.set_order.Given as goal
 abbrev pub invariant-loop-v : goal.invariant-loop-v
 invariant-loop-v l = ((u : ℕ) → u < l.v → slice_index l.ranks u ≡ length l.steps) × (length l.ranks ≡ length l.fn.ranks)
 
--- a node's rank is no later than each of its positions from i on, and is one of its positions where it is one of a step;
--- the nodes with such ranks have no places
+-- a node's rank is no later than each of its positions from i on, and is one of its positions where
+-- it is one of a step; the nodes with such ranks have no places
 abbrev pub invariant-loop-i : goal.invariant-loop-i
 invariant-loop-i l =
     (length l.ranks ≡ length l.fn.ranks)

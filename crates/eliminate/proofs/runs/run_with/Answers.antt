@@ -13,7 +13,8 @@ use Rattle.eliminate.proofs.Ruled.{step_known}
 use Rattle.eliminate.proofs.Whole.{CanRun, firsts_room, started, next_step, no_step, run_joins, run_on, last_fits, last_room, ended}
 use Rattle.eliminate.proofs.runs.run_with.Goals as goal
 
--- the first tables are what a run starts from, each step leads it on, and the product of what is left ends it
+-- the first tables are what a run starts from, each step leads it on, and the product of what is
+-- left ends it
 pub first_tables-count-requires-clause-asked : goal.first_tables-count-requires-clause-asked
 first_tables-count-requires-clause-asked g c = c.requires.asked
 

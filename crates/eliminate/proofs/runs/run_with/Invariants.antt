@@ -7,8 +7,8 @@ use Rattle.eliminate.proofs.Filing.{AllLater}
 use Rattle.eliminate.proofs.Whole.{so_many, CanRun}
 use Rattle.eliminate.proofs.runs.run_with.Given as goal
 
--- the plan can be run, the steps to come lead on, the slots made are filed, no live one holds a node of a step that is
--- over, and no list has changed its length
+-- the plan can be run, the steps to come lead on, the slots made are filed, no live one holds a
+-- node of a step that is over, and no list has changed its length
 abbrev pub invariant-loop-node : goal.invariant-loop-node
 invariant-loop-node g l = record {
   run : CanRun (cells_by g.C.Cell.ring g.C.Cell.of_weight g.C.Cell.of_value) l.diagram.nodes l.profile l.plan;

@@ -11,7 +11,8 @@ use Rattle.eliminate.proofs.Multiplying.{each_some}
 use Rattle.eliminate.proofs.Within.{first_too_much, sum_starts, next_step, no_step, has_grown, left_small, left_room, step_refused, step_joins, step_on, product_too_much, product_fits, product_sums}
 use Rattle.eliminate.proofs.sums.sum_with.Goals as goal
 
--- the first tables are what a sum starts from, each step leads it on, and the product of what is left ends it
+-- the first tables are what a sum starts from, each step leads it on, and the product of what is
+-- left ends it
 pub list_tables-requires-clause-profile : goal.list_tables-requires-clause-profile
 list_tables-requires-clause-profile g c = c.requires.profile
 

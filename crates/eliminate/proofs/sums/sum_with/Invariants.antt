@@ -5,8 +5,8 @@ use Rattle.eliminate.proofs.Filing.{AllLater}
 use Rattle.eliminate.proofs.Within.{Underway}
 use Rattle.eliminate.proofs.sums.sum_with.Given as goal
 
--- the sum is under way, the slots made are filed, no live one holds a node of a step that is over, and no list has
--- changed its length
+-- the sum is under way, the slots made are filed, no live one holds a node of a step that is over,
+-- and no list has changed its length
 abbrev pub invariant-loop-node : goal.invariant-loop-node
 invariant-loop-node g l = record {
   sum : Underway (cells_by g.C.Cell.ring g.C.Cell.of_weight g.C.Cell.of_value) l.diagram.nodes l.profile l.nodes l.steps l.fn.limits

@@ -1,4 +1,5 @@
--- The plan at each node is the one that is asked for, and each run leaves the workspaces as they were.
+-- The plan at each node is the one that is asked for, and each run leaves the workspaces as they
+-- were.
 use Rattle.evidence.specs.Sizes.{HasSpace}
 use Rattle.evidence.specs.Plans.{IsPlanIf}
 use Rattle.evidence.specs.Stakes.{IsWorthIf}

@@ -1,4 +1,5 @@
--- The copy goes over the nodes in the order named, and their strides add up to the place in the slot in any order.
+-- The copy goes over the nodes in the order named, and their strides add up to the place in the
+-- slot in any order.
 use Rattle.std.proofs.Common.{rules, ◌≡◌, ◌∙◌, ◌+◌, ◌-◌, ◌^◌, ◌<◌, ◌≤◌, ◌++◌, length, take, refl, sym, ap, subst, arith}
 use Rattle.std.proofs.lemmas.List.{length-take-le}
 use Rattle.finite_sums.specs.Sums.{InRange}

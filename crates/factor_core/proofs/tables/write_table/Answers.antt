@@ -1,4 +1,5 @@
--- The cells of the source stand along the steps over the nodes in ascending order, with the strides of the list.
+-- The cells of the source stand along the steps over the nodes in ascending order, with the strides
+-- of the list.
 use Rattle.std.proofs.Common.{rules, ◌≡◌, ◌∙◌, ◌+◌, ◌-◌, ◌<◌, ◌≤◌, ◌++◌, length, take, sym, ap, subst, arith, All, refl}
 use Rattle.std.proofs.Math.Path.{fun_ext}
 use Rattle.finite_sums.specs.Sums.{InRange}

@@ -114,7 +114,8 @@ returns-in-Err-clause-out_faults g c = c.in-Err.ensures.out_faults
 pub returns-in-Err-clause-err_faults : goal.returns-in-Err-clause-err_faults
 returns-in-Err-clause-err_faults g c = c.write_all.ensures.faults
 
--- a run that ended well took the file's text, so the file is there, keeps the limit and is not refused
+-- a run that ended well took the file's text, so the file is there, keeps the limit and is not
+-- refused
 pub returns-in-Ok-clause-always_absent : goal.returns-in-Ok-clause-always_absent
 returns-in-Ok-clause-always_absent g c lacks no_read = absurd (done_not_absent c.request_laws.ensures _ _ _ lacks _ c.in-Ok.status c.in-Ok.ensures.ok)
 

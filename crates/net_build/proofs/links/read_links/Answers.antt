@@ -1,4 +1,5 @@
--- The lists of the nodes are those of their blocks, so that what the steps find over them, the passes find.
+-- The lists of the nodes are those of their blocks, so that what the steps find over them, the
+-- passes find.
 use Rattle.std.proofs.lemmas.Result.{IfOk-from_err}
 use Rattle.std.proofs.Common.{◌≡◌, length, map, None, AllPairs, ◌≢◌, ap, sym, subst, ◌∙◌, All}
 use Rattle.std.proofs.lemmas.List.{length-map}

@@ -7,7 +7,8 @@ use Rattle.net_build.specs.Table.{node_rows, node_pass}
 use Rattle.first_fault.proofs.Leading.{Leads, AfterPass}
 use Rattle.net_build.proofs.nodes.add_blocks.Given as goal
 
--- the blocks still to come find what the whole pass finds, and the lists are those of the blocks before
+-- the blocks still to come find what the whole pass finds, and the lists are those of the blocks
+-- before
 abbrev pub invariant-loop-block : goal.invariant-loop-block
 invariant-loop-block l = record {
   lead : Leads (AfterPass (λ earlier b. node_rows l.text (names_of l.text earlier) (agents_of l.text earlier) b) (λ b. is_node b.kind) l.blocks l.block-index) (node_pass l.text l.blocks);

@@ -7,7 +7,8 @@ use Rattle.net_build.specs.Table.{sight_row}
 use Rattle.net_build.proofs.LinkLemmas.{Behind}
 use Rattle.net_build.proofs.owners.number_owners.Given as goal
 
--- the agents with the names so far, their numbers, and what the names still to come find, the whole pass finds
+-- the agents with the names so far, their numbers, and what the names still to come find, the whole
+-- pass finds
 abbrev pub invariant-loop-name : goal.invariant-loop-name
 invariant-loop-name l = record {
   agents : list_of l.agents.items ≡ with_sights (list_of l.initial.agents.items) (take l.name-index (list_of l.names));

@@ -1,4 +1,5 @@
--- A potential's rows are the first of those still to come, and it is entered where its head's name stands.
+-- A potential's rows are the first of those still to come, and it is entered where its head's name
+-- stands.
 use borrow.Author.Count.{falls}
 use Rattle.std.proofs.lemmas.Result.{IfOk-from_err}
 use Rattle.std.proofs.Common.{◌≡◌, ℕ, ◌<◌, ◌≤◌, true, false, List, length, get_or, All, Option, None, take, filter, sym, ap, subst, ◌∙◌}

@@ -5,7 +5,8 @@ use Rattle.first_fault.proofs.Leading.{Leads, AfterPass}
 use Rattle.net_build.proofs.potentials.enter_potentials.Given as goal
 use Rattle.net_parser.specs.Grammar.{is_potential}
 
--- the potentials among the blocks so far and their parents, and what the blocks still to come find, the whole pass finds
+-- the potentials among the blocks so far and their parents, and what the blocks still to come find,
+-- the whole pass finds
 abbrev pub invariant-loop-block : goal.invariant-loop-block
 invariant-loop-block l = record {
   potentials : borrowed_trees l.potentials.items ≡ potentials_among l.text l.names (filter (λ b. is_potential b.kind) (take l.block-index l.syntax));

@@ -1,4 +1,5 @@
--- Where all values fit, the most decimals are the scale; where one doesn't, the numbers of the text say which.
+-- Where all values fit, the most decimals are the scale; where one doesn't, the numbers of the text
+-- say which.
 use Rattle.net_build.specs.TableCalls.{values_pass}
 use Rattle.net_build.proofs.OutOfMemory.{out_of_memory}
 use Rattle.std.proofs.lemmas.Result.{IfOk-from_err}

@@ -6,7 +6,8 @@ use Rattle.policy_update.specs.Steps.{AreSettledBut, IsProfileOf}
 use Rattle.policy_update.proofs.Rising.{Rises}
 use Rattle.policy_update.proofs.rounds.go_round.Given as goal
 
--- all but the unsettled ones are settled, the decisions so far made a pass, and it is known whether the profile changed; the workspaces are as they were
+-- all but the unsettled ones are settled, the decisions so far made a pass, and it is known whether
+-- the profile changed; the workspaces are as they were
 abbrev pub invariant-loop-place : goal.invariant-loop-place
 invariant-loop-place l =
     IsProfileOf l.diagram.nodes l.answers l.profile

@@ -1,4 +1,5 @@
--- The answer of one decision more: its rows stand behind those so far, and before those still to come.
+-- The answer of one decision more: its rows stand behind those so far, and before those still to
+-- come.
 use Rattle.std.proofs.Common.{◌≡◌, ◌∙◌, ℕ, ◌+◌, ◌-◌, ◌<◌, List, [], ◌∷◌, ◌++◌, append_assoc, drop, drop-drop, get_or, length, map, take, sym, ap, arith}
 use Rattle.std.proofs.lemmas.List.{drop_more}
 use Rattle.std.proofs.lemmas.Result.{IfOk-from_err}

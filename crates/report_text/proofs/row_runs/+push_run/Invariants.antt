@@ -3,7 +3,8 @@ use Rattle.maid_model.specs.Nodes.{rows_under, states_of}
 use Rattle.report_text.specs.Runs.{run_lines}
 use Rattle.report_text.proofs.row_runs.+push_run.Given as goal
 
--- the lines under the states so far, and the number behind them; the labels are those of the first parents
+-- the lines under the states so far, and the number behind them; the labels are those of the first
+-- parents
 abbrev pub invariant-loop-state : goal.invariant-loop-state
 invariant-loop-state l = record {
   next : l.next ≡ l.first + l.state * rows_under (states_of l.sheet.diagram.now.nodes) l.rest;

@@ -1,4 +1,5 @@
--- Each piece of the line is the one that the row is made of, since what stands behind a known front is known.
+-- Each piece of the line is the one that the row is made of, since what stands behind a known front
+-- is known.
 use Rattle.std.proofs.Common.{◌≡◌, ◌+◌, ◌<◌, ◌++◌, sym, ◌∙◌, ap, subst, append_assoc, arith}
 use Rattle.std.specs.Prelude.{decimal}
 use Rattle.maid_model.specs.Names.{label_of}

@@ -1,4 +1,5 @@
--- The joined table has a cell for each choice of states of the slots' other nodes, and cells are written as far as that.
+-- The joined table has a cell for each choice of states of the slots' other nodes, and cells are
+-- written as far as that.
 use Rattle.std.proofs.Common.{◌∙◌, ◌+◌, All, take, subst, sym, ap, arith}
 use Rattle.node_sets.specs.Sets.{holds, IsIn}
 use Rattle.ring_sums.proofs.Each.{each_of}

@@ -1,4 +1,5 @@
--- The product has a cell for each choice of states of the slots' nodes, and cells are written as far as that.
+-- The product has a cell for each choice of states of the slots' nodes, and cells are written as
+-- far as that.
 use Rattle.std.proofs.Common.{◌∙◌, ◌+◌, All, take, subst, sym, ap, arith}
 use Rattle.node_sets.specs.Sets.{holds}
 use Rattle.factor_core.specs.Slots.{space, IsLiveSlot, AppendsTable, ProductOfFits, product_of_slots}

@@ -1,4 +1,5 @@
--- The table at one state has a cell for each choice of states of the other nodes, and cells are written as far as that.
+-- The table at one state has a cell for each choice of states of the other nodes, and cells are
+-- written as far as that.
 use Rattle.std.proofs.Common.{◌∙◌, ◌+◌, take, subst, sym, ap, arith}
 use Rattle.node_sets.specs.Sets.{holds}
 use Rattle.factor_core.specs.Operations.{restricted}

@@ -1,4 +1,5 @@
--- The bytes copied are a front of what is left, and none only where none is left or the buffer is empty.
+-- The bytes copied are a front of what is left, and none only where none is left or the buffer is
+-- empty.
 use Rattle.std.proofs.Common.{◌≡◌, ◌+◌, ◌^◌, ◌-◌, min, arith, ap, map, refl}
 use Rattle.std.proofs.lemmas.Bool.{false≢true}
 use Rattle.maid_io.specs.Memory.{ShelfState, file}

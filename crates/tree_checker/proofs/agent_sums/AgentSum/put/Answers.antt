@@ -14,7 +14,8 @@ set_factors-requires-clause-count c =
     ∙ same_count c.args.diagram.now.nodes c.args.self.now.rules c.args.rule c.requires.decision c.requires.rule (lists_in c.args.self.now.factors.items) c.requires.sum.factors
     ∙ sym (ap length (c.deref.ensures.value ∙ ap (λ r. r.weights) c.rule.view_is))
 
--- what the exchange of the rule says is searched for, not named, so that an edit without it is refused at this clause
+-- what the exchange of the rule says is searched for, not named, so that an edit without it is
+-- refused at this clause
 pub returns-clause-sum : goal.returns-clause-sum
 returns-clause-sum c =
     let sum = c.args.self.now in
