@@ -9,7 +9,8 @@ ghost use Rattle.size_precheck.specs.Joints.{HoldsOfEach};
 ghost use Rattle.size_precheck.specs.Sizes.{AreGainPlans, ArePlansOfGoals};
 
 use crate::joint_orders::joint_order;
-use crate::kinds::{gain_by, rows_by};
+use crate::joints::Known;
+use crate::kinds::{gain_in, rows_in};
 use crate::planners::Planner;
 use crate::plans::Plan;
 use crate::simulation::list_members;
@@ -62,6 +63,7 @@ fn gain_plans(
     alloc: Global,
     diagram: &Diagram,
     planner: &Planner,
+    left: &mut Option<Known>,
     decision: usize,
     goals: &[usize],
 ) -> Result<Vec<Plan>, AllocError>
@@ -72,7 +74,7 @@ fn gain_plans(
 {
     let mut plans = Vec::with_capacity(alloc, goals.len())?;
     for goal in goals {
-        plans.push(gain_by(alloc, diagram, planner, decision, *goal)?)?;
+        plans.push(gain_in(alloc, diagram, planner, left, decision, *goal)?)?;
     }
     Ok(plans)
 }
@@ -82,6 +84,7 @@ fn plan_goals(
     alloc: Global,
     diagram: &Diagram,
     planner: &Planner,
+    left: &mut Option<Known>,
     decision: usize,
 ) -> Result<Vec<Plan>, AllocError>
     requires decision { IsDecision diagram.now.nodes decision }
@@ -90,7 +93,30 @@ fn plan_goals(
 {
     descent_is_tested();
     let goals = list_members(alloc, &goals_of(diagram, decision))?;
-    gain_plans(alloc, diagram, planner, decision, &goals)
+    gain_plans(alloc, diagram, planner, left, decision, &goals)
+}
+
+/// What `plan_decision_by` tells, made in the lists that are left of an earlier plan, where there
+/// are some; it leaves them to the next one.
+pub(crate) fn plan_decision_in(
+    alloc: Global,
+    diagram: &Diagram,
+    planner: &Planner,
+    left: &mut Option<Known>,
+    decision: usize,
+) -> Result<DecisionPlans, AllocError>
+    requires decision { IsDecision diagram.now.nodes decision }
+    requires planner { IsPlanner diagram.now.nodes planner.now }
+    ensures { IfOk result (AreDecisionPlans diagram.now.nodes decision) }
+{
+    let rows = rows_in(alloc, diagram, planner, left, decision)?;
+    let goals = plan_goals(alloc, diagram, planner, left, decision)?;
+    let joint_order = joint_order(alloc, diagram, planner, left, decision, &goals)?;
+    Ok(DecisionPlans {
+        rows,
+        goals,
+        joint_order,
+    })
 }
 
 /// What `plan_decision` tells, by what all plans of the diagram share.
@@ -104,14 +130,7 @@ pub fn plan_decision_by(
     requires planner { IsPlanner diagram.now.nodes planner.now }
     ensures { IfOk result (AreDecisionPlans diagram.now.nodes decision) }
 {
-    let rows = rows_by(alloc, diagram, planner, decision)?;
-    let goals = plan_goals(alloc, diagram, planner, decision)?;
-    let joint_order = joint_order(alloc, diagram, planner, decision, &goals)?;
-    Ok(DecisionPlans {
-        rows,
-        goals,
-        joint_order,
-    })
+    plan_decision_in(alloc, diagram, planner, &mut None, decision)
 }
 
 /// The plans of a decision: that of its rows, and one for each utility of its agent that descends

@@ -29,6 +29,10 @@ const STEP_TIME: u64 = 256;
 /// Beside its cells, a step of a joint sum takes about as long as so much work of a plan.
 const JOINT_STEP_TIME: u64 = 448;
 
+/// The work of a step of a joint sum comes to at least about so much, so that there need be no
+/// order to tell that a sum takes too long.
+const LEAST_STEP_WORK: u64 = 36;
+
 /// A joint sum goes over cells of pairs, which take about so many times as long as those of a plan.
 const PAIR_TIME: u64 = 8;
 
@@ -157,27 +161,27 @@ fn put_goals(
 fn order_all(
     alloc: Global,
     states: &[u64],
-    mut known: Known,
+    known: &mut Known,
     waiting: &NodeSet,
     first_cells: u64,
     limits: &JointLimits,
 ) -> Result<Vec<usize>, AllocError>
     requires states { length states.now ≡ MOST_NODES }
-    requires places { HasPlaces (IsIn waiting.now) known }
+    requires places { HasPlaces (IsIn waiting.now) known.old }
     ensures { IfOk result (λ order. ListsOnceOrNone (IsIn waiting.now) order.items) }
 {
     let mut rest: NodeSet = *waiting;
     let count = count_members(waiting);
     let mut order = Vec::with_capacity(alloc, count)?;
-    let mut classes = list_classes(alloc, &known, &rest)?;
+    let mut classes = list_classes(alloc, known, &rest)?;
     let (mut cells, mut work) = (first_cells, 0);
     for _ in 0..count {
         match find_next(&classes) {
             Some(v) if v < states.len() && rest.holds(v) && limits.allow(count, cells, work) => {
-                take_node(&mut classes, v, counted_of(&known, v).cells);
+                take_node(&mut classes, v, counted_of(known, v).cells);
                 rest.remove(v);
                 order.push(v)?;
-                let made = eliminate(states, &mut known, &mut classes, &rest, v)?;
+                let made = eliminate(states, known, &mut classes, &rest, v)?;
                 cells = cells.saturating_add(made.cells);
                 work = work.saturating_add(made.work);
             }
@@ -195,12 +199,14 @@ fn order_all(
 
 /// An order in which the decision's goals may be summed together, greedy as that of a plan with the
 /// tables of all goals: of the nodes that the goals' plans eliminate. It takes about as long as a
-/// plan. It is empty where the sum would take longer than the plans, or have more cells than there
-/// is room for beside the largest plan (`pair_room`).
+/// plan, and is made in the lists that are left of an earlier one, where there are some; it leaves
+/// them to the next. It is empty where the sum would take longer than the plans, or have more cells
+/// than there is room for beside the largest plan (`pair_room`).
 pub fn joint_order(
     alloc: Global,
     diagram: &Diagram,
     planner: &Planner,
+    left: &mut Option<Known>,
     decision: usize,
     goals: &[Plan],
 ) -> Result<Vec<usize>, AllocError>
@@ -226,10 +232,14 @@ pub fn joint_order(
     let mut ruled = members;
     ruled.remove(decision);
     let first = last.saturating_add(cells_of_tables(&planner.families, &ruled));
-    if !limits.allow(count_members(&waiting), first, 0) {
+    let steps = count_members(&waiting);
+    let least_work = LEAST_STEP_WORK.saturating_mul(steps as u64);
+    if !limits.allow(steps, first, least_work) {
         return Ok(Vec::new(alloc));
     }
-    let mut known = list_narrowed(alloc, planner, &ruled, &waiting)?;
+    let mut known = list_narrowed(alloc, planner, left.take(), &ruled, &waiting)?;
     let cells = put_goals(diagram, states, &mut known, &waiting, goals).saturating_add(first);
-    order_all(alloc, states, known, &waiting, cells, &limits)
+    let order = order_all(alloc, states, &mut known, &waiting, cells, &limits)?;
+    *left = Some(known);
+    Ok(order)
 }

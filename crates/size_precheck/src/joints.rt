@@ -1,12 +1,12 @@
 //! What is known of each node while the tables of a plan are simulated.
 
-ghost use Rattle.std.specs.Prelude.{◌≡◌, ℕ, ◌<◌, length, OnOk};
+ghost use Rattle.std.specs.Prelude.{◌≡◌, ℕ, ◌<◌, [], length, IfOk, OnOk};
 ghost use Rattle.node_sets.specs.declared.sets.TheConstants.{MOST_NODES};
 ghost use Rattle.node_sets.specs.Sets.{IsIn};
 ghost use Rattle.size_precheck.specs.Joints.{counted_in, joint_at, HasPlace, IsPut, IsPutToAll, TakesPlace};
 
-use node_sets::NodeSet;
-use std::alloc::AllocError;
+use node_sets::{MOST_NODES, NodeSet};
+use std::alloc::{AllocError, Global};
 
 /// A table: the number of the node that it came of, and the nodes of its scope.
 #[derive(Clone, Copy)]
@@ -79,6 +79,24 @@ pub fn put_table(joints: &mut [Joint], at: &NodeSet, table: &Table, gone: &NodeS
         joints[y].put(table, gone, out);
         from = y + 1;
     }
+}
+
+/// Lists in which nothing is known yet: those that are left of an earlier plan, or else new ones
+/// with room for so many nodes.
+pub fn empty_lists(alloc: Global, left: Option<Known>, count: usize) -> Result<Known, AllocError>
+    ensures len { IfOk result (λ known. length known.places.items ≡ MOST_NODES) }
+    ensures none { IfOk result (λ known. known.held.items ≡ []) }
+{
+    if let Some(mut known) = left {
+        if known.places.len() == MOST_NODES {
+            known.held.clear();
+            return Ok(known);
+        }
+    }
+    Ok(Known {
+        places: vec![in alloc; 0; MOST_NODES]?,
+        held: Vec::with_capacity(alloc, count)?,
+    })
 }
 
 /// Gives a node the next place, for what is known of it.

@@ -8,11 +8,12 @@ ghost use Rattle.node_sets.specs.declared.sets.TheConstants.{MOST_NODES};
 ghost use Rattle.size_precheck.specs.Kept.{AreWorthsBeside, FollowDecisions, IsFoundInKept, IsKept, IsKeptRun, IsWorthBeside};
 ghost use Rattle.size_precheck.specs.Sizes.{ArePlansOfWorths, IsPlanned, ListsDecisions};
 
-use crate::decisions::{DecisionPlans, plan_decision_by};
-use crate::kinds::worth_by;
+use crate::decisions::{DecisionPlans, plan_decision_in};
+use crate::joints::Known;
+use crate::kinds::worth_in;
 use crate::planners::Planner;
 use crate::plans::Plan;
-use crate::worths::worths_by;
+use crate::worths::worths_in;
 use maid_model::{Diagram, descent_is_tested};
 use node_sets::MOST_NODES;
 use std::alloc::{AllocError, Global};
@@ -42,6 +43,7 @@ fn keep_decisions(
     alloc: Global,
     diagram: &Diagram,
     planner: &Planner,
+    left: &mut Option<Known>,
 ) -> Result<Vec<KeptPlans>, AllocError>
     requires { IsPlanner diagram.now.nodes planner.now }
     ensures decisions { IfOk result (λ kept. FollowDecisions diagram.now.nodes kept.items) }
@@ -50,7 +52,7 @@ fn keep_decisions(
     let mut kept = Vec::new(alloc);
     for decision in 0..diagram.count() {
         if diagram.is_decision(decision) {
-            let plans = plan_decision_by(alloc, diagram, planner, decision)?;
+            let plans = plan_decision_in(alloc, diagram, planner, left, decision)?;
             kept.push(KeptPlans { decision, plans })?;
         }
     }
@@ -65,8 +67,9 @@ pub fn keep_plans(alloc: Global, diagram: &Diagram) -> Result<KeptRun, AllocErro
     ensures kept { IfOk result (IsKeptRun diagram.now.nodes) }
 {
     let planner = Planner::new(alloc, diagram)?;
-    let decisions = keep_decisions(alloc, diagram, &planner)?;
-    let worths = worths_by(alloc, diagram, &planner)?;
+    let mut left = None;
+    let decisions = keep_decisions(alloc, diagram, &planner, &mut left)?;
+    let worths = worths_in(alloc, diagram, &planner, &mut left)?;
     Ok(KeptRun {
         planner,
         decisions,
@@ -96,6 +99,7 @@ fn decision_with(
     alloc: Global,
     diagram: &Diagram,
     planner: &Planner,
+    left: &mut Option<Known>,
     kept: &[KeptPlans],
     decision: usize,
 ) -> Result<DecisionPlans, AllocError>
@@ -106,7 +110,7 @@ fn decision_with(
 {
     match copy_kept(alloc, kept, decision)? {
         Some(plans) => Ok(plans),
-        None => plan_decision_by(alloc, diagram, planner, decision),
+        None => plan_decision_in(alloc, diagram, planner, left, decision),
     }
 }
 
@@ -115,6 +119,7 @@ pub(crate) fn plan_decisions(
     alloc: Global,
     diagram: &Diagram,
     planner: &Planner,
+    left: &mut Option<Known>,
     kept: &[KeptPlans],
     order: &[usize],
 ) -> Result<Vec<DecisionPlans>, AllocError>
@@ -125,7 +130,8 @@ pub(crate) fn plan_decisions(
 {
     let mut plans = Vec::with_capacity(alloc, order.len())?;
     for decision in order {
-        plans.push(decision_with(alloc, diagram, planner, kept, *decision)?)?;
+        let of_one = decision_with(alloc, diagram, planner, left, kept, *decision)?;
+        plans.push(of_one)?;
     }
     Ok(plans)
 }
@@ -137,6 +143,7 @@ fn worth_beside(
     alloc: Global,
     diagram: &Diagram,
     planner: &Planner,
+    left: &mut Option<Known>,
     before: &Plan,
     changed: usize,
 ) -> Result<Plan, AllocError>
@@ -149,7 +156,7 @@ fn worth_beside(
     match before.utility() {
         Some(utility) => {
             if planner.families[utility].above.holds(changed) {
-                worth_by(alloc, diagram, planner, utility)
+                worth_in(alloc, diagram, planner, left, utility)
             } else {
                 before.copy(alloc)
             }
@@ -163,6 +170,7 @@ fn worths_beside(
     alloc: Global,
     diagram: &Diagram,
     planner: &Planner,
+    left: &mut Option<Known>,
     before: &[Plan],
     changed: usize,
 ) -> Result<Vec<Plan>, AllocError>
@@ -173,7 +181,8 @@ fn worths_beside(
 {
     let mut plans = Vec::with_capacity(alloc, before.len())?;
     for plan in before {
-        plans.push(worth_beside(alloc, diagram, planner, plan, changed)?)?;
+        let worth = worth_beside(alloc, diagram, planner, left, plan, changed)?;
+        plans.push(worth)?;
     }
     Ok(plans)
 }
@@ -194,7 +203,7 @@ pub fn keep_edited(
     ensures worths_alone { IfOk result (λ run. run.decisions.items ≡ []) }
 {
     let planner = Planner::new(alloc, diagram)?;
-    let worths = worths_beside(alloc, diagram, &planner, before, changed)?;
+    let worths = worths_beside(alloc, diagram, &planner, &mut None, before, changed)?;
     Ok(KeptRun {
         planner,
         decisions: Vec::new(alloc),

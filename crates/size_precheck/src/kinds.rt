@@ -1,4 +1,4 @@
-//! The three kinds of plan that a run makes.
+//! The three kinds of plan that a run makes, one after another in the same lists.
 
 ghost use Rattle.std.specs.Prelude.{◌≡◌, ◌<◌, length, IfOk, OnOk};
 ghost use Rattle.maid_model.specs.declared.diagrams.Kind.TheVariants.{Utility};
@@ -8,16 +8,18 @@ ghost use Rattle.plan_sums.specs.Plans.{row_plan, worth_plan};
 ghost use Rattle.size_precheck.specs.Families.{IsPlanner};
 ghost use Rattle.size_precheck.specs.Sizes.{CanBePlanned, CanPlanGain, CanPlanRows, IsGainPlan, IsMade};
 
+use crate::joints::Known;
 use crate::planners::Planner;
-use crate::plans::{Plan, plan_by};
+use crate::plans::{Plan, plan_in};
 use maid_model::{Diagram, MOST_PARENTS};
 use std::alloc::{AllocError, Global};
 
 /// The plan of a decision's rows, by what is known of the diagram.
-pub fn rows_by(
+pub fn rows_in(
     alloc: Global,
     diagram: &Diagram,
     planner: &Planner,
+    left: &mut Option<Known>,
     decision: usize,
 ) -> Result<Plan, AllocError>
     requires decision { IsDecision diagram.now.nodes decision }
@@ -26,14 +28,16 @@ pub fn rows_by(
     ensures made { IfOk result (IsMade diagram.now.nodes (row_plan diagram.now.nodes decision)) }
 {
     let parents = diagram.parents(decision);
-    plan_by(alloc, diagram, planner, parents, None, None)
+    let keep = Vec::from_slice(alloc, parents)?;
+    plan_in(alloc, diagram, planner, left, keep, None, None)
 }
 
 /// The plan of a decision's states for one of its goals, by what is known of the diagram.
-pub fn gain_by(
+pub fn gain_in(
     alloc: Global,
     diagram: &Diagram,
     planner: &Planner,
+    left: &mut Option<Known>,
     decision: usize,
     goal: usize,
 ) -> Result<Plan, AllocError>
@@ -47,15 +51,24 @@ pub fn gain_by(
     let mut keep = Vec::with_capacity(alloc, MOST_PARENTS + 1)?;
     keep.push(decision)?;
     keep.extend_from_slice(parents)?;
-    plan_by(alloc, diagram, planner, &keep, Some(decision), Some(goal))
+    plan_in(
+        alloc,
+        diagram,
+        planner,
+        left,
+        keep,
+        Some(decision),
+        Some(goal),
+    )
 }
 
 /// The plan of a utility's worth, by what is known of the diagram: nothing is kept. What it sums to
 /// is the utility's part of an expected utility.
-pub fn worth_by(
+pub fn worth_in(
     alloc: Global,
     diagram: &Diagram,
     planner: &Planner,
+    left: &mut Option<Known>,
     utility: usize,
 ) -> Result<Plan, AllocError>
     requires within { utility < length diagram.now.nodes }
@@ -65,5 +78,6 @@ pub fn worth_by(
     ensures made { IfOk result (IsMade diagram.now.nodes (worth_plan utility)) }
 {
     let _count = diagram.count();
-    plan_by(alloc, diagram, planner, &[], None, Some(utility))
+    let keep = Vec::new(alloc);
+    plan_in(alloc, diagram, planner, left, keep, None, Some(utility))
 }

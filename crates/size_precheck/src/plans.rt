@@ -9,6 +9,7 @@ ghost use Rattle.size_precheck.specs.Joints.{IsRunOfPlan};
 ghost use Rattle.size_precheck.specs.Sizes.{plan_of, CanBePlanned, IsMade, IsMember};
 
 use crate::counts::{add, count_cells, multiply};
+use crate::joints::Known;
 use crate::planners::Planner;
 use crate::simulation::{Run, eliminate_all};
 use crate::sizes::Size;
@@ -109,10 +110,11 @@ impl Plan {
 }
 
 /// The steps of what is asked, with what its tables and the steps come to.
-fn run_by(
+fn run_in(
     alloc: Global,
     diagram: &Diagram,
     planner: &Planner,
+    left: Option<Known>,
     keep: &[usize],
     without: Option<usize>,
     utility: Option<usize>,
@@ -129,8 +131,47 @@ fn run_by(
     let kept = set_of(keep);
     let waiting = nodes.difference(&kept);
     let ruled = ruled_nodes(&nodes, without);
-    let start = put_all_first(alloc, diagram, planner, &ruled, utility, &waiting)?;
+    let start = put_all_first(alloc, diagram, planner, left, &ruled, utility, &waiting)?;
     eliminate_all(alloc, states, start, waiting)
+}
+
+/// The plan of `plan_by`, made in the lists that are left of an earlier plan, where there are some;
+/// it leaves them to the next one.
+pub(crate) fn plan_in(
+    alloc: Global,
+    diagram: &Diagram,
+    planner: &Planner,
+    left: &mut Option<Known>,
+    keep: Vec<usize>,
+    without: Option<usize>,
+    utility: Option<usize>,
+) -> Result<Plan, AllocError>
+    requires planner { IsPlanner diagram.now.nodes planner.now }
+    requires asked { CanBePlanned diagram.now.nodes (plan_of keep.items without utility) }
+    ensures { IfOk result (IsMade diagram.now.nodes (plan_of keep.items without utility)) }
+{
+    let _count = diagram.count();
+    let lists = left.take();
+    let run = run_in(alloc, diagram, planner, lists, &keep, without, utility)?;
+    let states = planner.states.as_slice();
+    let kept = set_of(&keep);
+    let last = count_cells(states, &kept);
+    let cells = add(run.cells, last);
+    let work = add(run.work, multiply(last, run.live as u64));
+    let mut members = kept;
+    members.insert_all(&run.steps);
+    *left = Some(run.left);
+    Ok(Plan {
+        keep,
+        without,
+        utility,
+        steps: run.steps,
+        size: Size {
+            cells: cells as u128,
+            work: work as u128,
+        },
+        members,
+    })
 }
 
 /// The plan that `make_plan` makes of what is asked, by what all plans of the diagram share.
@@ -146,26 +187,8 @@ pub fn plan_by(
     requires asked { CanBePlanned diagram.now.nodes (plan_of keep.now without utility) }
     ensures { IfOk result (IsMade diagram.now.nodes (plan_of keep.now without utility)) }
 {
-    let _count = diagram.count();
-    let run = run_by(alloc, diagram, planner, keep, without, utility)?;
-    let states = planner.states.as_slice();
-    let kept = set_of(keep);
-    let last = count_cells(states, &kept);
-    let cells = add(run.cells, last);
-    let work = add(run.work, multiply(last, run.live as u64));
-    let mut members = kept;
-    members.insert_all(&run.steps);
-    Ok(Plan {
-        keep: Vec::from_slice(alloc, keep)?,
-        without,
-        utility,
-        steps: run.steps,
-        size: Size {
-            cells: cells as u128,
-            work: work as u128,
-        },
-        members,
-    })
+    let kept = Vec::from_slice(alloc, keep)?;
+    plan_in(alloc, diagram, planner, &mut None, kept, without, utility)
 }
 
 /// The plan that keeps these nodes, leaves the rule of `without` out, and has that utility. Its

@@ -13,7 +13,7 @@ use crate::keeping::{KeptRun, plan_decisions};
 use crate::planners::Planner;
 use crate::plans::Plan;
 use crate::sizes::Size;
-use crate::worths::worths_by;
+use crate::worths::worths_in;
 use maid_model::{COUNT_END, Diagram};
 use std::alloc::{AllocError, Global};
 
@@ -107,8 +107,9 @@ pub fn plan_run_by(
     ensures worths { IfOk result (λ run. ArePlansOfWorths diagram.now.nodes run.worths.items) }
     ensures size { IfOk result (λ run. IsSizeOfRun diagram.now.nodes order.now run.size) }
 {
-    let decisions = plan_decisions(alloc, diagram, planner, &[], order)?;
-    let worths = worths_by(alloc, diagram, planner)?;
+    let mut left = None;
+    let decisions = plan_decisions(alloc, diagram, planner, &mut left, &[], order)?;
+    let worths = worths_in(alloc, diagram, planner, &mut left)?;
     Ok(with_size(decisions, worths))
 }
 
@@ -142,7 +143,9 @@ pub fn plan_run_with(
     ensures worths { IfOk result (λ run. ArePlansOfWorths diagram.now.nodes run.worths.items) }
     ensures size { IfOk result (λ run. IsSizeOfRun diagram.now.nodes order.now run.size) }
 {
-    let decisions = plan_decisions(alloc, diagram, &kept.planner, &kept.decisions, order)?;
+    let planner = &kept.planner;
+    let known = kept.decisions.as_slice();
+    let decisions = plan_decisions(alloc, diagram, planner, &mut None, known, order)?;
     let worths = copy_plans(alloc, &kept.worths)?;
     Ok(with_size(decisions, worths))
 }

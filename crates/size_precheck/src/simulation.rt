@@ -46,6 +46,8 @@ pub struct Run {
     pub cells: u64,
     /// The work of the steps.
     pub work: u64,
+    /// The lists of what was known, which are left to a next plan.
+    pub left: Known,
 }
 
 /// The members of the set, in text order.
@@ -224,5 +226,6 @@ pub fn eliminate_all(
         live,
         cells,
         work,
+        left: known,
     })
 }

@@ -11,7 +11,7 @@ ghost use Rattle.size_precheck.specs.Joints.{AllStayCounted, AreStateCounts, Has
 ghost use Rattle.size_precheck.specs.Sizes.{plan_of, IsOfPlan};
 
 use crate::counts::{add, count_cells, count_members};
-use crate::joints::{Counted, Joint, Known, Table, give_place};
+use crate::joints::{Counted, Joint, Known, Table, empty_lists, give_place};
 use crate::planners::{Family, Planner};
 use crate::simulation::{Start, put_first};
 use maid_model::{Diagram, MOST_NODES};
@@ -147,10 +147,12 @@ fn narrowed(
     }
 }
 
-/// What is known of the nodes that wait, where they have the tables of these nodes alone.
+/// What is known of the nodes that wait, where they have the tables of these nodes alone. It stands
+/// in the lists that are left of an earlier plan, where there are some.
 pub fn list_narrowed(
     alloc: Global,
     planner: &Planner,
+    left: Option<Known>,
     ruled: &NodeSet,
     waiting: &NodeSet,
 ) -> Result<Known, AllocError>
@@ -163,20 +165,17 @@ pub fn list_narrowed(
 {
     let states = planner.states.as_slice();
     let families = planner.families.as_slice();
-    let mut known = Known {
-        places: vec![in alloc; 0; MOST_NODES]?,
-        held: Vec::with_capacity(alloc, count_members(waiting))?,
-    };
+    let mut known = empty_lists(alloc, left, count_members(waiting))?;
     let mut from = 0;
     'nodes: while let Some(y) = waiting.first_from(from) {
-        let left = narrowed(
+        let counted = narrowed(
             states,
             families,
             &planner.joints[y],
             planner.counts[y],
             ruled,
         );
-        give_place(&mut known, y, left)?;
+        give_place(&mut known, y, counted)?;
         from = y + 1;
     }
     Ok(known)
@@ -226,6 +225,7 @@ pub fn put_all_first(
     alloc: Global,
     diagram: &Diagram,
     planner: &Planner,
+    left: Option<Known>,
     ruled: &NodeSet,
     utility: Option<usize>,
     waiting: &NodeSet,
@@ -242,7 +242,7 @@ pub fn put_all_first(
 {
     let states = planner.states.as_slice();
     let families = planner.families.as_slice();
-    let mut known = list_narrowed(alloc, planner, ruled, waiting)?;
+    let mut known = list_narrowed(alloc, planner, left, ruled, waiting)?;
     let mut live = 0;
     let mut cells = 0;
     let mut from = 0;

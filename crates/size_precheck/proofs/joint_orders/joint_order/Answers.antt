@@ -1,12 +1,11 @@
 -- The nodes that wait are the steps of the goals' plans, which are nodes of the diagram.
 use Rattle.std.proofs.Common.{◌∙◌, ◌↔◌, ◌<◌, ℕ, List, ap, arith, inr, length, map, subst, sym}
-use Rattle.std.proofs.lemmas.Result.{IfOk-weaker}
 use Rattle.maid_model.specs.Views.{NodeView}
 use Rattle.node_sets.specs.declared.sets.NodeSet.{NodeSet}
 use Rattle.node_sets.specs.Sets.{IsIn}
 use Rattle.plan_sums.specs.Plans.{gain_plan}
 use Rattle.size_precheck.specs.declared.planners.Family.{Family}
-use Rattle.size_precheck.specs.Decisions.{HaveNodesBelow, IsStepOf, ListsOnceOrNone, ListsStepsOrNone}
+use Rattle.size_precheck.specs.Decisions.{HaveNodesBelow, IsStepOf}
 use Rattle.size_precheck.specs.Sizes.{ArePlansOfGoals, SizedPlan, goal_list}
 use Rattle.size_precheck.proofs.Ordering.{lists_alike, nodes_below}
 use Rattle.size_precheck.proofs.Placed.{placed_still}
@@ -42,6 +41,4 @@ pub order_all-requires-clause-places : goal.order_all-requires-clause-places
 order_all-requires-clause-places c = placed_still c.in_ok-known.known c.put_goals.new.known c.put_goals.ensures (IsIn c.all_steps-waiting.result) c.in_ok-known.ensures.places
 
 pub returns : goal.returns
-returns c =
-    IfOk-weaker c.order_all.result (λ order. ListsOnceOrNone (IsIn c.all_steps-waiting.result) order.items) (λ order. ListsStepsOrNone c.args.goals.now order.items)
-    (λ order so some. lists_alike (IsIn c.all_steps-waiting.result) (IsStepOf c.args.goals.now) order.items c.all_steps-waiting.ensures (so some)) c.order_all.ensures
+returns c some = lists_alike (IsIn c.all_steps-waiting.result) (IsStepOf c.args.goals.now) c.in_ok-order.order.items c.all_steps-waiting.ensures (c.in_ok-order.ensures some)

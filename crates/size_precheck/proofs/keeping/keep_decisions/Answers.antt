@@ -34,8 +34,8 @@ loop-decision-preserved c =
 pub loop-decision-init : goal.loop-decision-init
 loop-decision-init c = subst (KeepsSoFar c.args.diagram.now.nodes 0) (sym {A = List KeptPlans} c.new-kept.ensures.items) (record { decisions = refl; all = λ k d l. absurd (omega arith) })
 
-pub plan_decision_by-requires-clause-decision : goal.plan_decision_by-requires-clause-decision
-plan_decision_by-requires-clause-decision c = c.is_decision.ensures.decision.0 c.if-is_decision.true
+pub plan_decision_in-requires-clause-decision : goal.plan_decision_in-requires-clause-decision
+plan_decision_in-requires-clause-decision c = c.is_decision.ensures.decision.0 c.if-is_decision.true
 
 pub returns-clause-decisions : goal.returns-clause-decisions
 returns-clause-decisions c =

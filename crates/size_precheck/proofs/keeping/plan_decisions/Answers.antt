@@ -12,7 +12,7 @@ decision_with-requires-clause-decision c = (c.requires.order.all _).0 (Contains-
 pub loop-decision-preserved : goal.loop-decision-preserved
 loop-decision-preserved c =
     subst (ArePlans c.args.diagram.now.nodes (take (c.loop-decision.decision-index + 1) c.args.order.now)) (sym c.in_ok-push.ensures.items)
-    (plans_next c.args.diagram.now.nodes c.args.order.now c.loop-decision.plans.items c.loop-decision.decision-index c.in_ok-decision_with.field-0 c.loop-decision-test.true c.loop-decision.invariant c.in_ok-decision_with.ensures)
+    (plans_next c.args.diagram.now.nodes c.args.order.now c.loop-decision.plans.items c.loop-decision.decision-index c.in_ok-of_one.of_one c.loop-decision-test.true c.loop-decision.invariant c.in_ok-of_one.ensures)
 
 pub loop-decision-init : goal.loop-decision-init
 loop-decision-init c = subst (λ (plans : List DecisionPlans). ArePlans c.args.diagram.now.nodes [] plans) (sym c.in_ok-plans.ensures.items) tt

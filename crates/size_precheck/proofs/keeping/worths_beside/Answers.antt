@@ -13,8 +13,8 @@ loop-plan-preserved c =
     let nodes = c.args.diagram.now.nodes in
     let k = c.loop-plan.plan-index in
     subst (AllZip (IsPlanned nodes) (map (λ (p : SizedPlan). p.plan) (take (k + 1) c.args.before.now))) (sym c.in_ok-push.ensures.items)
-    (zip_next (IsPlanned nodes) (λ (p : SizedPlan). p.plan) c.args.before.now c.loop-plan.plans.items k c.plan-item.result c.in_ok-worth_beside.field-0 c.loop-plan-test.true c.loop-plan.invariant
-    (subst (λ (p : SizedPlan). IsPlanned nodes p.plan c.in_ok-worth_beside.field-0) c.plan-item.is c.in_ok-worth_beside.ensures))
+    (zip_next (IsPlanned nodes) (λ (p : SizedPlan). p.plan) c.args.before.now c.loop-plan.plans.items k c.plan-item.result c.in_ok-worth.worth c.loop-plan-test.true c.loop-plan.invariant
+    (subst (λ (p : SizedPlan). IsPlanned nodes p.plan c.in_ok-worth.worth) c.plan-item.is c.in_ok-worth.ensures))
 
 pub returns : goal.returns
 returns c =

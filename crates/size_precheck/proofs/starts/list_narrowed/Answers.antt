@@ -22,7 +22,7 @@ nodes-preserved c =
     let ruled = c.args.ruled.now in
     let before : Known = c.nodes.known in
     let after : Known = c.give_place.new.known in
-    let left : Counted = c.narrowed-left.result in
+    let left : Counted = c.narrowed-counted.result in
     let takes : TakesPlace y left before after = c.in_ok-give_place.ensures in
     let joint : c.index.result.now ≡ joint_at planner.joints.items y = get_or_read planner.joints.items y _ (c.requires.waiting y first.inside) c.index.ensures no_joint in
     let cells : c.index-in-Some.result.now ≡ slice_index planner.counts.items y =
@@ -31,7 +31,7 @@ nodes-preserved c =
     subst (λ (xs : List ℕ). IsNarrowed xs planner.families.items ruled (joint_at planner.joints.items y) (slice_index planner.counts.items y) left) c.as_slice-states.ensures.value
     (subst (λ (fs : List Family). IsNarrowed c.as_slice-states.result.now fs ruled (joint_at planner.joints.items y) (slice_index planner.counts.items y) left) c.as_slice-families.ensures.value
     (subst (λ (j : Joint). IsNarrowed c.as_slice-states.result.now c.as_slice-families.result.now ruled j (slice_index planner.counts.items y) left) joint
-    (subst (λ (n : ℕ). IsNarrowed c.as_slice-states.result.now c.as_slice-families.result.now ruled c.index.result.now n left) cells c.narrowed-left.ensures))) in
+    (subst (λ (n : ℕ). IsNarrowed c.as_slice-states.result.now c.as_slice-families.result.now ruled c.index.result.now n left) cells c.narrowed-counted.ensures))) in
     record {
       within = let l = first.small in omega arith;
       len = takes.len ∙ inv.len;

@@ -3,7 +3,7 @@ use Rattle.std.specs.List.{AllZip, range_with_len}
 use Rattle.maid_model.specs.Nodes.{node_at, is_utility}
 use Rattle.plan_sums.specs.Plans.{worth_plan}
 use Rattle.size_precheck.specs.Sizes.{IsPlanned}
-use Rattle.size_precheck.proofs.worths.worths_by.Given as goal
+use Rattle.size_precheck.proofs.worths.worths_in.Given as goal
 
 -- the plans of the utilities so far
 abbrev pub invariant-loop-u : goal.invariant-loop-u

@@ -12,7 +12,7 @@ use Rattle.size_precheck.specs.Greedy.{first_scopes}
 use Rattle.size_precheck.proofs.Orders.{greedy_same}
 use Rattle.size_precheck.proofs.Planning.{all_known, all_plain, all_ruled, in_waiting, ruled_listed, scopes_listed}
 use Rattle.size_precheck.proofs.Starting.{kept_known}
-use Rattle.size_precheck.proofs.plans.run_by.Goals as goal
+use Rattle.size_precheck.proofs.plans.run_in.Goals as goal
 
 pub set_of-kept-requires : goal.set_of-kept-requires
 set_of-kept-requires c v m = let a = kept_known c.args.diagram.now.nodes _ c.requires.asked.is_plan v m in let b = c.requires.diagram.limits.nodes in omega arith

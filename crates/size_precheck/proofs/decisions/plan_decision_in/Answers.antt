@@ -1,7 +1,7 @@
 use Rattle.std.proofs.Common.{List, subst, sym}
 use Rattle.size_precheck.specs.Decisions.{ListsStepsOrNone}
 use Rattle.size_precheck.specs.Sizes.{ArePlansOfGoals, SizedPlan}
-use Rattle.size_precheck.proofs.decisions.plan_decision_by.Goals as goal
+use Rattle.size_precheck.proofs.decisions.plan_decision_in.Goals as goal
 
 pub joint_order-requires-clause-goals : goal.joint_order-requires-clause-goals
 joint_order-requires-clause-goals c = subst (λ (plans : List SizedPlan). ArePlansOfGoals c.args.diagram.now.nodes c.args.decision plans) (sym c.deref.ensures.value) c.in_ok-goals.ensures
