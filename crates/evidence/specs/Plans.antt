@@ -1,6 +1,7 @@
 -- The plans of a diagram under evidence, made and kept. Only private functions cite it.
-use Rattle.std.specs.Prelude.{◌≡◌, ◌≢◌, ℕ, ◌<◌, List, length, slice_index_or, Option, Some, None, MatchOption}
+use Rattle.std.specs.Prelude.{◌≡◌, ◌≢◌, ℕ, ◌<◌, ◌≤◌, List, length, slice_index_or, Option, Some, None, MatchOption}
 use Rattle.maid_model.specs.declared.diagrams.Kind.TheVariants.{Utility}
+use Rattle.maid_model.specs.declared.limits.TheConstants.{MOST_PLAN_CELLS}
 use Rattle.maid_model.specs.Nodes.{node_at}
 use Rattle.maid_model.specs.Views.{NodeView}
 use Rattle.rule_solver.specs.Rooms.{HasRoomForRun}
@@ -39,3 +40,11 @@ pub record HasFurtherPlans (nodes : List NodeView) (x : ℕ) (plans : GivenPlans
 pub record HasRoomForAll (nodes : List NodeView) (x cells : ℕ) : Type 0 where
   pub run : HasRoomForRun nodes cells
   pub given : HasRoomGiven nodes x cells
+
+-- all plans of a run under evidence, none of which has more cells than a plan may have
+pub record HasAllPlans
+    (nodes : List NodeView) (order : List ℕ) (x : ℕ) (plans : GivenPlans) : Type 0 where
+  pub run : HasRunPlans nodes order plans
+  pub further : HasFurtherPlans nodes x plans
+  pub room : HasRoomForAll nodes x plans.size.cells
+  pub limit : plans.size.cells ≤ MOST_PLAN_CELLS

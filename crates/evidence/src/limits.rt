@@ -3,7 +3,6 @@
 ghost use Rattle.std.specs.Prelude.{◌≡◌, ◌≢◌, ◌<◌, ◌≤◌, length, IfOk};
 ghost use Rattle.first_fault.specs.Answers.{Passes};
 ghost use Rattle.maid_model.specs.declared.diagrams.Kind.TheVariants.{Utility};
-ghost use Rattle.maid_model.specs.declared.limits.TheConstants.{MOST_PLAN_CELLS};
 ghost use Rattle.maid_model.specs.Answers.{IsAnswer};
 ghost use Rattle.maid_model.specs.Diagrams.{IsDiagram};
 ghost use Rattle.maid_model.specs.Nodes.{node_at, states_of};
@@ -14,7 +13,7 @@ ghost use Rattle.rule_solver.specs.Faults.{solve_fault};
 ghost use Rattle.evidence.specs.Bounds.{KeepsBoundsGiven};
 ghost use Rattle.evidence.specs.Faults.{answer_pass, further_pass, given_fault, given_size_pass};
 ghost use Rattle.evidence.specs.Faults.{limits_pass};
-ghost use Rattle.evidence.specs.Plans.{HasFurtherPlans, HasRoomForAll, HasRunPlans};
+ghost use Rattle.evidence.specs.Plans.{HasAllPlans, HasFurtherPlans};
 ghost use Rattle.evidence.specs.Sizes.{HasSpace};
 ghost use Rattle.evidence.specs.Stakes.{IsMass};
 ghost use Rattle.evidence.specs.Unsolved.{ordered_pass};
@@ -59,10 +58,7 @@ fn keep_sizes(
     requires within { node < length diagram.now.nodes }
     requires kind { (node_at diagram.now.nodes node).kind ≢ Utility }
     ensures rows { Passes solve_fault (given_size_pass diagram.now node) result }
-    ensures plans { IfOk result (HasRunPlans diagram.now.nodes order.now) }
-    ensures further { IfOk result (HasFurtherPlans diagram.now.nodes node) }
-    ensures room { IfOk result (λ p. HasRoomForAll diagram.now.nodes node p.size.cells) }
-    ensures limit { IfOk result (λ p. p.size.cells ≤ MOST_PLAN_CELLS) }
+    ensures plans { IfOk result (HasAllPlans diagram.now.nodes order.now node) }
 {
     sizes_of_plans();
     orders_list_decisions();
@@ -90,10 +86,7 @@ fn keep_limits(
     requires kind { (node_at diagram.now.nodes node).kind ≢ Utility }
     ensures rows { Passes solve_fault (limits_pass diagram.now node) result }
     ensures diagram { IfOk result (λ p. IsDiagram diagram.now) }
-    ensures plans { IfOk result (HasRunPlans diagram.now.nodes order.now) }
-    ensures further { IfOk result (HasFurtherPlans diagram.now.nodes node) }
-    ensures room { IfOk result (λ p. HasRoomForAll diagram.now.nodes node p.size.cells) }
-    ensures limit { IfOk result (λ p. p.size.cells ≤ MOST_PLAN_CELLS) }
+    ensures plans { IfOk result (HasAllPlans diagram.now.nodes order.now node) }
 {
     keep_bound(diagram)?;
     keep_bound_given(diagram, node)?;

@@ -26,7 +26,7 @@ returns-in_err-solved-clause-rows c = out_of_memory (ordered_pass c.args.diagram
 -- ---- the mass, which is nought exactly where the evidence is impossible
 pub mass_of-requires-clause-ready : goal.mass_of-requires-clause-ready
 mass_of-requires-clause-ready c =
-    (c.in_ok-plans.plans.size.cells, c.in_ok-spaces.ensures, c.in_ok-plans.ensures.room.given.alone)
+    (c.in_ok-plans.plans.size.cells, c.in_ok-spaces.ensures, c.in_ok-plans.ensures.plans.room.given.alone)
 
 pub returns-then-mass-eq0-clause-rows : goal.returns-then-mass-eq0-clause-rows
 returns-then-mass-eq0-clause-rows c =
@@ -41,7 +41,7 @@ pub solve_by-requires-clause-ready : goal.solve_by-requires-clause-ready
 solve_by-requires-clause-ready c = (
   c.in_ok-plans.plans.size.cells,
   subst (AreReady c.in_ok-plans.plans.size.cells) (sym c.in_ok-mass.ensures.again) c.in_ok-spaces.ensures,
-  c.in_ok-plans.ensures.room.run,
+  c.in_ok-plans.ensures.plans.room.run,
 )
 
 pub returns-clause-rows : goal.returns-clause-rows
@@ -56,5 +56,5 @@ pub returns-clause-ready : goal.returns-clause-ready
 returns-clause-ready c = (
   c.in_ok-plans.plans.size.cells,
   subst (AreReady c.in_ok-plans.plans.size.cells) (sym (c.in_ok-solved.ensures.again ∙ c.in_ok-mass.ensures.again)) c.in_ok-spaces.ensures,
-  c.in_ok-plans.ensures.room.given,
+  c.in_ok-plans.ensures.plans.room.given,
 )
