@@ -8,4 +8,6 @@ pub mod Once
 pub mod Turns
 pub mod Heads
 pub mod Owning
-pub mod Flat
+pub mod Lent
+pub mod Nests
+pub mod Spelt

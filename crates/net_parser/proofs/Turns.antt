@@ -6,10 +6,9 @@ use Rattle.std.specs.Option.{option_map}
 use Rattle.net_lexer.specs.Token.{is_name}
 use Rattle.net_lexer.specs.declared.tokens.TokenKind.{TokenKind}
 use Rattle.net_lexer.specs.declared.tokens.TokenKind.TheVariants as kinds
-use Rattle.net_parser.specs.Trees.{ValueTree, BlockTree}
+use Rattle.net_parser.specs.Trees.{BlockTree}
 use Rattle.net_parser.specs.Lexemes.{Lexeme}
-use Rattle.net_parser.specs.Grammar.{Rule, Each, Mark, Value, Values, Block, Text}
-use Rattle.net_parser.specs.Views.{trees_of}
+use Rattle.net_parser.specs.Grammar.{Rule, Each, Mark, Block, Text}
 use Rattle.net_parser.proofs.Moves.{begun}
 use Rattle.net_parser.specs.Reading.{Symbol, mark, name, value, values, attribute_name, attributes, given, names, may_name, next, refusal_at, same_kind, is_next, block_place, place_behind, stop, within, step, refusal}
 
@@ -33,10 +32,6 @@ values_go_on depth after [] e = refl
 values_go_on depth after (l ∷ ls) e =
     let t = value_step depth after l.token.kind l.bytes e in
     same_step (values depth) (value depth) after (values depth ∷ after) l ls t.0 t.1
-
-pub values-push : (depth : ℕ) (vs : List ValueTree) (v : ValueTree) (a b c : List Lexeme) → Values depth (trees_of vs) a b → Value depth v b c → Values depth (trees_of (vs ++ v ∷ [])) a c
-values-push depth [] v a b c h k = rw h (c, k, refl)
-values-push depth (w ∷ vs) v a b c h k = (h.0, h.1, values-push depth vs v h.0 b c h.2 k)
 
 pub each-push : {A : Type 0} (P : A → Rule) (xs : List A) (x : A) (a b c : List Lexeme) → Each P xs a b → P x b c → Each P (xs ++ x ∷ []) a c
 each-push P [] x a b c h k = (c, begun (P x) h k, refl)
@@ -79,9 +74,6 @@ names_go_on after (l ∷ ls) e =
 module _ (list : Symbol) (item : List Symbol) (close : TokenKind) (go_on : (after : List Symbol) (ls : List Lexeme) → is_next close ls ≡ false → stop (within (list ∷ after)) ls ≡ stop (within (item ++ list ∷ after)) ls) where
   turn : (after : List Symbol) (from now further : List Lexeme) → stop (within (list ∷ after)) from ≡ stop (within (list ∷ after)) now → further ≡ now → is_next close now ≡ false → stop (within (list ∷ after)) from ≡ stop (within (item ++ list ∷ after)) further
   turn after from now further e same is_open = e ∙ go_on after now is_open ∙ ap (stop (within (item ++ list ∷ after))) (sym same)
-
-pub values_turn : (depth : ℕ) (after : List Symbol) (from now further : List Lexeme) → stop (within (values depth ∷ after)) from ≡ stop (within (values depth ∷ after)) now → further ≡ now → is_next kinds.ParenClose now ≡ false → stop (within (values depth ∷ after)) from ≡ stop (within (value depth ∷ values depth ∷ after)) further
-values_turn depth = turn (values depth) (value depth ∷ []) kinds.ParenClose (values_go_on depth)
 
 pub attributes_turn : (potential : Bool) (after : List Symbol) (from now further : List Lexeme) → stop (within (attributes potential ∷ after)) from ≡ stop (within (attributes potential ∷ after)) now → further ≡ now → is_next kinds.BraceClose now ≡ false → stop (within (attributes potential ∷ after)) from ≡ stop (within (attribute_name potential ∷ mark kinds.Equals ∷ value 32 ∷ mark kinds.Semicolon ∷ attributes potential ∷ after)) further
 attributes_turn potential = turn (attributes potential) (attribute_name potential ∷ mark kinds.Equals ∷ value 32 ∷ mark kinds.Semicolon ∷ []) kinds.BraceClose (attributes_go_on potential)

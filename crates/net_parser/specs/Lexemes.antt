@@ -38,3 +38,13 @@ is_leaf kinds.Text = true
 is_leaf kinds.Number = true
 is_leaf kinds.Word = true
 is_leaf kind = false
+
+-- it opens or closes a list
+abbrev pub is_parenthesis : TokenKind → Bool
+is_parenthesis kinds.ParenOpen = true
+is_parenthesis kinds.ParenClose = true
+is_parenthesis kind = false
+
+-- the tokens of lexemes
+abbrev pub tokens_in : List Lexeme → List Token
+tokens_in lexemes = map (λ l. l.token) lexemes

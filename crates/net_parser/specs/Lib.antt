@@ -1,4 +1,5 @@
 pub mod Trees
+pub mod Marks
 pub mod Lexemes
 pub mod Grammar
 pub mod Faults

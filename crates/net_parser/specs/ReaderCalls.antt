@@ -1,16 +1,14 @@
 -- What the reader's calls promise. No public contract needs it.
-use Rattle.std.specs.Prelude.{◌≡◌, ℕ, Bool, List, [], ◌∷◌, drop, map, Result}
+use Rattle.std.specs.Prelude.{◌≡◌, ℕ, Bool, List, [], ◌∷◌, ◌++◌, drop, Result}
 use Rattle.net_lexer.specs.declared.tokens.Token.{Token}
 use Rattle.net_lexer.specs.declared.tokens.TokenKind.TheVariants.{Equals, Semicolon}
 use Rattle.net_parser.specs.declared.reader.Stop.{Stop}
 use Rattle.net_parser.specs.declared.trees.BlockKind.{BlockKind}
 use Rattle.net_parser.specs.declared.trees.BlockKind.TheVariants.{Potential}
-use Rattle.net_parser.specs.declared.trees.Value.{Value}
-use Rattle.net_parser.specs.Grammar.{ClosedValues, Rule, is_potential}
-use Rattle.net_parser.specs.Lexemes.{Lexeme}
+use Rattle.net_parser.specs.Grammar.{ClosedValues, Rule, Value, is_potential}
+use Rattle.net_parser.specs.Lexemes.{Lexeme, tokens_in}
 use Rattle.net_parser.specs.Reading.{FollowsInBlock, NodeNames, PotentialNames, Symbol, attribute_name, body_rest, mark, value}
-use Rattle.net_parser.specs.Trees.{leaf}
-use Rattle.net_parser.specs.Views.{trees_of, value_tree}
+use Rattle.net_parser.specs.Views.{tree_of, values_of}
 
 -- the symbols of an attribute
 abbrev pub attribute_symbols : Bool → List Symbol
@@ -36,10 +34,12 @@ abbrev pub BeginsWithLexeme : List Lexeme → Token → List ℕ → Type 0
 BeginsWithLexeme lexemes token bytes =
     lexemes ≡ record { token = token; bytes = bytes } ∷ drop 1 lexemes
 
--- leaves, and the parenthesis that closes their list, at any depth
-abbrev pub ClosedLeaves : List Token → Rule
-ClosedLeaves leaves from to = (depth : ℕ) → ClosedValues depth (trees_of (map leaf leaves)) from to
+-- the tokens of a value are gone past: they spell its tree
+abbrev pub PassesValue : ℕ → Rule
+PassesValue depth from to = (passed : List Lexeme) × (from ≡ passed ++ to)
+    × Value depth (tree_of (tokens_in passed)) from to
 
--- these values, and the parenthesis that closes their list
-abbrev pub ClosedList : ℕ → List Value → Rule
-ClosedList depth values from to = ClosedValues depth (trees_of (map value_tree values)) from to
+-- the tokens of a list's values are gone past, and the parenthesis that closes it
+abbrev pub PassesList : ℕ → Rule
+PassesList depth from to = (passed : List Lexeme) × (close : Lexeme) × (from ≡ passed ++ close ∷ to)
+    × ClosedValues depth (values_of (tokens_in passed)) from to

@@ -1,6 +1,5 @@
 -- Reading from left to right, for the contracts of private functions. No public contract needs it.
-use Rattle.std.specs.Prelude.{◌≡◌, ◌-◌, ℕ, Bool, true, false, not, ◌&&◌, ◌||◌, List, [], ◌∷◌, ◌++◌, Option, None, Some, is_some, drop, nat_lt, bytes_eq, if◌then◌else◌, codes, Result, Ok, Err}
-use Rattle.std.specs.List.{list_all, prefix_len}
+use Rattle.std.specs.Prelude.{◌≡◌, ◌-◌, ℕ, Bool, true, false, not, ◌&&◌, ◌||◌, List, [], ◌∷◌, ◌++◌, Option, None, Some, is_some, nat_lt, bytes_eq, if◌then◌else◌, codes, Result, Ok, Err}
 use Rattle.std.specs.Option.{option_map, option_map_or}
 use Rattle.net_lexer.specs.Token.{is_name}
 use Rattle.net_lexer.specs.declared.tokens.Token.{Token}
@@ -15,7 +14,7 @@ use Rattle.net_parser.specs.declared.parsing.ParseFault.TheVariants as faults
 use Rattle.net_parser.specs.declared.words.BlockWord.{BlockWord}
 use Rattle.net_parser.specs.declared.words.BlockWord.TheVariants as words
 use Rattle.net_parser.specs.Trees.{BlockTree}
-use Rattle.net_parser.specs.Lexemes.{Lexeme, is_leaf}
+use Rattle.net_parser.specs.Lexemes.{Lexeme}
 use Rattle.net_parser.specs.Grammar.{Rule, Never, ◌▹◌, Mark, Word, Name, Given}
 
 -- what may come next; attributes, values, given and names go up to the closing token
@@ -186,20 +185,6 @@ abbrev pub Follows : {A : Type 0} → List Symbol → Result A Stop → List Lex
 Follows symbols result old new = (after : List Symbol) → IsReading result
     (stop (within (symbols ++ after)) old) (λ x. stop (within after) new) new
 
--- leaves alone, and behind them the parenthesis that closes their list
-abbrev pub IsFlat : List Token → List Token → List Token → Type 0
-IsFlat tokens leaves behind = (close : Token) × (tokens ≡ leaves ++ close ∷ behind)
-    × (close.kind ≡ kinds.ParenClose) × (list_all (λ t. is_leaf t.kind) leaves ≡ true)
-
--- a parenthesis that closes comes next
-abbrev pub is_closed : List Token → Bool
-is_closed [] = false
-is_closed (t ∷ tokens) = same_kind kinds.ParenClose t.kind
-
--- such a list of leaves stands at the front
-abbrev pub begins_flat : List Token → Bool
-begins_flat tokens = is_closed (drop (prefix_len (λ t. is_leaf t.kind) tokens) tokens)
-
 -- a word that begins a node block of that kind
 abbrev pub NodeWord : BlockKind → Rule
 NodeWord kind from to = (word : List ℕ) × (node_kind word ≡ Some kind) × Word word from to
@@ -237,11 +222,6 @@ FollowsInBlock first rest result old new =
 -- a block's body is still to come
 abbrev pub body_rest : Bool → List Symbol
 body_rest potential = mark kinds.BraceOpen ∷ attributes potential ∷ []
-
--- Reading over values in a list, at any depth: what comes behind them is met behind what is read.
-abbrev pub ValuesFollow : List Lexeme → List Lexeme → Type 0
-ValuesFollow old new = (depth : ℕ) (after : List Symbol)
-    → stop (within (values depth ∷ after)) old ≡ stop (within after) new
 
 -- what a head says is given, behind those before, and the mark that closes the head
 abbrev pub AddsGiven : List Token → List Token → Rule

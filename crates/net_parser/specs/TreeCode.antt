@@ -1,45 +1,22 @@
 -- A value's tree as a list: its leaves, and where each list opens and closes.
-use Rattle.std.proofs.Common.{◌≡◌, List, [], ◌∷◌, Bool, true, false, ◌⊎◌, inl, inr, refl, ap}
+use Rattle.std.proofs.Common.{◌≡◌, List, [], ◌∷◌, true, false, inl, inr, refl, ap}
 use Rattle.std.specs.Coded.{Coded, code_by, coded_list, coded⊎, coded×, coded_bool}
 use Rattle.net_lexer.specs.declared.tokens.Token.{Token}
 use Rattle.net_lexer.specs.contracts.tokens.Token as token
 use Rattle.net_parser.specs.declared.trees.BlockKind.{BlockKind}
 use Rattle.net_parser.specs.contracts.trees.BlockKind as kind
+use Rattle.net_parser.specs.Marks.{TreeMark, push, read}
 use Rattle.net_parser.specs.Trees.{BlockTree, AttributeTree, ValueTree, ValueTrees, leaf, list, none, more}
-
--- a leaf's token, or where a list opens (true) or closes (false)
-abbrev Mark : Type 0
-Mark = Bool ⊎ Token
 
 -- the marks of a value, or of values, before those that follow
 abbrev mutual
-  marks : ValueTree → List Mark → List Mark
+  marks : ValueTree → List TreeMark → List TreeMark
   marks (leaf t) after = inr t ∷ after
   marks (list values) after = inl true ∷ all_marks values (inl false ∷ after)
 
-  all_marks : ValueTrees → List Mark → List Mark
+  all_marks : ValueTrees → List TreeMark → List TreeMark
   all_marks none after = after
   all_marks (more value values) after = marks value (all_marks values after)
-
--- the values in front, and those behind each list that closes later
-abbrev Waiting : Type 0
-Waiting = ValueTrees × List ValueTrees
-
--- the value stands before the values in front
-abbrev push : ValueTree → Waiting → Waiting
-push value w = (more value w.0, w.1)
-
--- the values in front become one list before those that follow it
-abbrev wrapped : ValueTrees → List ValueTrees → Waiting
-wrapped now [] = (now, [])
-wrapped now (next ∷ rest) = (more (list now) next, rest)
-
--- the values that marks stand for, and those behind each list that they only close
-abbrev read : List Mark → Waiting
-read [] = (none, [])
-read (inr t ∷ after) = push (leaf t) (read after)
-read (inl false ∷ after) = (none, (read after).0 ∷ (read after).1)
-read (inl true ∷ after) = wrapped (read after).0 (read after).1
 
 -- the one values and then the others
 abbrev append : ValueTrees → ValueTrees → ValueTrees
@@ -51,11 +28,11 @@ append_none none = refl
 append_none (more value values) = ap (more value) (append_none values)
 
 mutual
-  read-marks : (value : ValueTree) (after : List Mark) → read (marks value after) ≡ push value (read after)
+  read-marks : (value : ValueTree) (after : List TreeMark) → read (marks value after) ≡ push value (read after)
   read-marks (leaf t) after = refl
   read-marks (list values) after = rw (read-all_marks values (inl false ∷ after), append_none values) refl
 
-  read-all_marks : (values : ValueTrees) (after : List Mark)
+  read-all_marks : (values : ValueTrees) (after : List TreeMark)
       → read (all_marks values after) ≡ (append values (read after).0, (read after).1)
   read-all_marks none after = refl
   read-all_marks (more value values) after = rw (read-marks value (all_marks values after), read-all_marks values after) refl
@@ -70,7 +47,7 @@ back value = rw (read-marks value []) refl
 
 -- a value's tree as the list of its marks, from which it is read back
 abbrev pub value_code : Coded ValueTree
-value_code = code_by (List Mark) (coded_list (coded⊎ coded_bool token.the_row.coded))
+value_code = code_by (List TreeMark) (coded_list (coded⊎ coded_bool token.the_row.coded))
     (λ v. marks v []) (λ ms. first (read ms).0) back
 
 -- an attribute as its name and its value

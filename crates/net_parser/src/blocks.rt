@@ -18,16 +18,18 @@ const NESTING: u8 = 32;
 
 impl<'a> Reader<'_, 'a> {
     /// Reads `NAME = VALUE ;`.
-    fn attribute(&mut self, alloc: Global, potential: bool) -> Result<Attribute<'a>, Stop>
+    fn attribute(&mut self, potential: bool) -> Result<Attribute<'a>, Stop>
         ensures rule { IfOk result (λ a. grammar.Attribute potential a self.old self.new) }
         ensures follows { Follows (attribute_symbols potential) result self.old self.new }
         ensures shorter { OnOk result (length self.new < length self.old) }
     {
-        let name = self.attribute_name(potential)?;
+        let tokens = self.tokens();
+        self.attribute_name(potential)?;
         self.expect(TokenKind::Equals)?;
-        let value = self.value(alloc, NESTING)?;
+        self.value(NESTING)?;
+        let len = tokens.len() - self.tokens().len();
         self.expect(TokenKind::Semicolon)?;
-        Ok(Attribute { name, value })
+        Ok(Attribute::new(&tokens[..len]))
     }
 
     /// Reads `{`, attributes and `}`.
@@ -39,7 +41,7 @@ impl<'a> Reader<'_, 'a> {
         self.expect(TokenKind::BraceOpen)?;
         let mut attributes = Vec::new(alloc);
         while !self.accept(TokenKind::BraceClose) {
-            let attribute = self.attribute(alloc, potential)?;
+            let attribute = self.attribute(potential)?;
             attributes.push(attribute)?;
         }
         Ok(attributes)

@@ -6,6 +6,7 @@
 //! text's end. Tokens have a tree or a fault, and never both ([`tokens_read_one_way`]).
 #![tactic(auto)]
 
+mod attributes;
 mod blocks;
 mod laws;
 mod parsing;
@@ -15,6 +16,7 @@ mod trees;
 mod values;
 mod words;
 
+pub use attributes::{Attribute, Value};
 pub use laws::{blocks_stand_in_their_text, tokens_read_one_way};
 pub use parsing::{ParseFault, parse};
-pub use trees::{Attribute, Block, BlockKind, Syntax, Value};
+pub use trees::{Block, BlockKind, Syntax};

@@ -4,16 +4,15 @@
 //! what it answers, and on `Err` it stands before the first impossible token. `terminals` has the
 //! rules of one token, `values` and `blocks` those made of others.
 
-ghost use Rattle.std.specs.Prelude.{◌≡◌, ◌<◌, List, [], length, drop, map, All, IfSome, IfNone, IsTrue, is_some};
-ghost use Rattle.std.specs.List.{prefix_len};
+ghost use Rattle.std.specs.Prelude.{◌≡◌, ◌<◌, List, [], length, drop, All, IfSome, IfNone, IsTrue};
 ghost use Rattle.net_lexer.specs.Token.{IsTokenOf, is_token};
-ghost use Rattle.net_parser.specs.Lexemes.{lexemes, is_leaf};
+ghost use Rattle.net_parser.specs.Lexemes.{lexemes, tokens_in};
 ghost use Rattle.net_parser.specs.Faults.{rest_place};
-ghost use Rattle.net_parser.specs.Reading.{fault_at, IsFlat, ValuesFollow, begins_flat};
-ghost use Rattle.net_parser.specs.ReaderCalls.{BeginsWithLexeme, ClosedLeaves};
+ghost use Rattle.net_parser.specs.Reading.{fault_at};
+ghost use Rattle.net_parser.specs.ReaderCalls.{BeginsWithLexeme};
 
 use crate::ParseFault;
-use net_lexer::{Token, TokenKind};
+use net_lexer::Token;
 use std::alloc::{AllocError, AllocFailed};
 use std::marker::Model;
 
@@ -57,37 +56,6 @@ impl From<AllocError> for Stop {
 
     fn from(_error: AllocError) -> Stop {
         Stop::NoMemory
-    }
-}
-
-fn is_leaf(kind: TokenKind) -> bool
-    ensures { result ≡ is_leaf kind }
-{
-    matches!(kind, TokenKind::Text | TokenKind::Number | TokenKind::Word)
-}
-
-// How many leaves stand at the front.
-fn count_leaves(tokens: &[Token]) -> usize
-    ensures { result ≡ prefix_len (λ t. is_leaf t.kind) tokens.now }
-{
-    tokens
-        .iter()
-        .take_while(|token| is_leaf(token.kind))
-        .count()
-}
-
-// The leaves at the front, and what stands behind the parenthesis that closes their list.
-fn split_leaves(tokens: &[Token]) -> Option<(&[Token], &[Token])>
-    ensures flat { IfSome result (λ split. IsFlat tokens.now split.0.now split.1.now) }
-    ensures found { is_some result ≡ begins_flat tokens.now }
-{
-    let (leaves, rest) = tokens.split_at(count_leaves(tokens));
-    let [close, behind @ ..] = rest else {
-        return None;
-    };
-    match close.kind {
-        TokenKind::ParenClose => Some((leaves, behind)),
-        _ => None,
     }
 }
 
@@ -138,17 +106,11 @@ impl<'t, 'a> Reader<'t, 'a> {
         self.rest = &self.rest[1..];
     }
 
-    /// Goes past leaves and the parenthesis that closes their list, if no list stands among them.
-    pub fn leaves(&mut self) -> Option<&'a [Token]>
-        ensures rule { IfSome result (λ leaves. ClosedLeaves leaves.now self.old self.new) }
-        ensures follows { IfSome result (λ leaves. ValuesFollow self.old self.new) }
-        ensures shorter { IfSome result (λ leaves. length self.new < length self.old) }
-        ensures unread { IfNone result (self.new ≡ self.old) }
-        ensures found { is_some result ≡ begins_flat (map (λ l. l.token) self.old) }
+    /// The tokens that are still to be read.
+    pub fn tokens(&self) -> &'a [Token]
+        ensures { result.now ≡ tokens_in self.now }
     {
-        let (leaves, behind) = split_leaves(self.rest)?;
-        self.rest = behind;
-        Some(leaves)
+        self.rest
     }
 
     /// Where the next token begins, or the text's end where there is none.

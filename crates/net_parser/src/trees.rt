@@ -1,5 +1,6 @@
 //! The tree of a text. Contracts see it as the records of plain lists of `specs/Trees.antt`.
 
+use crate::Attribute;
 use net_lexer::Token;
 use std::marker::Model;
 
@@ -28,35 +29,6 @@ impl BlockKind {
     {
         matches!(self, BlockKind::Potential)
     }
-}
-
-/// An attribute's value: a string, a numeral or a word, or a list of values in parentheses. A list
-/// in which no list stands is lent from the tokens, so that a table takes no memory in the tree.
-#[derive(Drop)]
-pub enum Value<'a> {
-    Leaf(Token),
-    Leaves(&'a [Token]),
-    List(Vec<Value<'a>>),
-}
-
-/// An attribute of a block, with the token of its name.
-#[derive(Drop)]
-pub struct Attribute<'a> {
-    pub name: Token,
-    pub value: Value<'a>,
-}
-
-impl<'a> Model for Attribute<'a> {
-    ghost use Rattle.net_parser.specs.Trees.{AttributeTree};
-    ghost use Rattle.net_parser.specs.TreeCode.{attribute_code};
-
-    ghost Value = { AttributeTree };
-
-    ghost coded = { attribute_code };
-
-    ghost use Rattle.net_parser.specs.Views.{value_tree};
-
-    ghost view = { λ a. record { name = a.name; value = value_tree a.value } };
 }
 
 /// A block, with the tokens of its names.

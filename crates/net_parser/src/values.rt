@@ -1,21 +1,16 @@
 //! The rules of an attribute's value.
 
-ghost use Rattle.std.specs.Prelude.{◌<◌, [], ◌∷◌, length, IfOk, OnOk};
-ghost use Rattle.net_parser.specs.Grammar as grammar;
-ghost use Rattle.net_parser.specs.Views.{value_tree};
+ghost use Rattle.std.specs.Prelude.{◌<◌, [], ◌∷◌, length, OnOk};
 ghost use Rattle.net_parser.specs.Reading.{value, values, Follows};
-ghost use Rattle.net_parser.specs.ReaderCalls.{ClosedList};
+ghost use Rattle.net_parser.specs.ReaderCalls.{PassesList, PassesValue};
 
-use crate::Value;
 use crate::reader::{Reader, Stop};
 use net_lexer::TokenKind;
-use std::alloc::Global;
 
-impl<'a> Reader<'_, 'a> {
-    /// Reads a value in which so many lists may stand in one another.
-    #[cycle(value)]
-    pub fn value(&mut self, alloc: Global, depth: u8) -> Result<Value<'a>, Stop>
-        ensures rule { IfOk result (λ v. grammar.Value depth (value_tree v) self.old self.new) }
+impl Reader<'_, '_> {
+    /// Goes past a value in which so many lists may stand in one another.
+    pub fn value(&mut self, depth: u8) -> Result<(), Stop>
+        ensures rule { OnOk result (PassesValue depth self.old self.new) }
         ensures follows { Follows (value depth ∷ []) result self.old self.new }
         ensures shorter { OnOk result (length self.new < length self.old) }
     {
@@ -25,33 +20,40 @@ impl<'a> Reader<'_, 'a> {
         match token.kind {
             TokenKind::Text | TokenKind::Number | TokenKind::Word => {
                 self.advance();
-                Ok(Value::Leaf(token))
+                Ok(())
             }
             TokenKind::ParenOpen if depth == 0 => Err(Stop::TooDeep),
             TokenKind::ParenOpen => {
                 self.advance();
-                if let Some(leaves) = self.leaves() {
-                    return Ok(Value::Leaves(leaves));
-                }
-                let values = self.values(alloc, depth - 1)?;
-                Ok(Value::List(values))
+                self.values(depth - 1)
             }
             _ => Err(Stop::Unexpected),
         }
     }
 
-    /// Reads the values of a list, and the parenthesis that closes it.
-    #[cycle(value)]
-    fn values(&mut self, alloc: Global, depth: u8) -> Result<Vec<Value<'a>>, Stop>
-        ensures rule { IfOk result (λ all. ClosedList depth all.items self.old self.new) }
+    // Goes past the values of a list and the parenthesis that closes it. Among them so many lists
+    // may stand in one another.
+    fn values(&mut self, depth: u8) -> Result<(), Stop>
+        ensures rule { OnOk result (PassesList depth self.old self.new) }
         ensures follows { Follows (values depth ∷ []) result self.old self.new }
         ensures shorter { OnOk result (length self.new < length self.old) }
     {
-        let mut values = Vec::new(alloc);
-        while !self.accept(TokenKind::ParenClose) {
-            let value = self.value(alloc, depth)?;
-            values.push(value)?;
+        // How many lists are open that were opened here.
+        let mut level = 0;
+        while let Some((token, _)) = self.peek() {
+            match token.kind {
+                TokenKind::Text | TokenKind::Number | TokenKind::Word => {}
+                TokenKind::ParenOpen if level == depth => return Err(Stop::TooDeep),
+                TokenKind::ParenOpen => level += 1,
+                TokenKind::ParenClose if level == 0 => {
+                    self.advance();
+                    return Ok(());
+                }
+                TokenKind::ParenClose => level -= 1,
+                _ => return Err(Stop::Unexpected),
+            }
+            self.advance();
         }
-        Ok(values)
+        Err(Stop::Unexpected)
     }
 }
