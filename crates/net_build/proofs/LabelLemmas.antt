@@ -1,8 +1,7 @@
 -- Strings among values, and their leaves.
-use Rattle.std.proofs.Common.{rules, ◌≡◌, ℕ, ◌+◌, ◌<◌, ◌≤◌, Bool, true, false, ◌&&◌, List, [], ◌∷◌, ◌++◌, length, get_or, take, map, All, Bor, Result, Ok, Err, inl, inr, nat_le, refl, ap, sym, ◌∙◌, arith}
-use Rattle.std.specs.Prelude.{◌==◌}
+use Rattle.std.proofs.Common.{◌≡◌, ℕ, ◌+◌, ◌<◌, ◌≤◌, Bool, true, false, ◌&&◌, List, [], ◌∷◌, ◌++◌, length, get_or, take, map, All, Result, Ok, Err, inl, inr, nat_le, refl, ap, sym, ◌∙◌, arith}
 use Rattle.std.specs.List.{list_all}
-use Rattle.std.proofs.lemmas.Bool.{false≢true}
+use Rattle.std.proofs.lemmas.Bool.{false≢true, false_from_ne_true}
 use Rattle.std.proofs.lemmas.Bool.Decides.{nat_tests}
 use Rattle.std.specs.Global.{Vec}
 use Rattle.net_build.specs.Blocks.{is_string, is_text, are_strings, is_string_list, no_token, title_at}
@@ -16,7 +15,7 @@ use Rattle.maid_model.specs.Names.{list_of}
 use Rattle.first_fault.specs.Passes.{each}
 use Rattle.first_fault.specs.Answers.{IsFaultOrNoMemory, Passes}
 use Rattle.net_build.specs.Passes.{build_fault}
-use Rattle.net_build.specs.Stages.{leaves_in, are_string_values, are_text_tokens}
+use Rattle.net_build.specs.Stages.{are_text_tokens}
 use Rattle.net_build.specs.Table.{label_row, label_rows, states_rows}
 use Rattle.net_build.proofs.AttributeLemmas.{and_left, and_right}
 use Rattle.net_build.proofs.LinkLemmas.{map_more}
@@ -24,41 +23,11 @@ use Rattle.net_lexer.specs.Token.{text_value}
 use Rattle.net_lexer.specs.declared.tokens.Token.{Token}
 use Rattle.net_lexer.specs.declared.tokens.TokenKind.{TokenKind}
 use Rattle.net_lexer.specs.declared.tokens.TokenKind.TheVariants as tokens
-use Rattle.net_parser.proofs.Flat.{tree_of_flat}
 use Rattle.net_parser.specs.Owned.{leaves, all_leaves}
 use Rattle.net_parser.specs.Trees.{ValueTree, ValueTrees, leaf, list, none, more, AttributeTree, BlockTree}
-use Rattle.net_parser.specs.Views.{value_tree, trees_of}
-use Rattle.net_parser.specs.declared.trees.Value.{Value}
-use Rattle.net_parser.specs.declared.trees.Value.TheVariants as values
-use Rattle.net_parser.specs.declared.trees.Value.TheFolds.{the_lemmas}
+use Rattle.net_parser.specs.Views.{trees_of, IsFlatList, HasNoFlatList}
 
-are_all : (vs : List Value) → are_strings (trees_of (map value_tree vs)) ≡ list_all (λ v. is_string (value_tree v)) vs
-are_all [] = refl
-are_all (v ∷ vs) = ap (λ b. is_string (value_tree v) && b) (are_all vs)
-
--- the leaves of a list of values
-pub leaves_of_list : (vs : List Value) → all_leaves (trees_of (map value_tree vs)) ≡ leaves_in vs
-leaves_of_list [] = refl
-leaves_of_list (v ∷ vs) = ap (λ ls. leaves (value_tree v) ++ ls) (leaves_of_list vs)
-
-pub string_list_is : (vs : List Value) → is_string_list (list (trees_of (map value_tree vs))) ≡ are_string_values vs
-string_list_is [] = refl
-string_list_is (v ∷ vs) = ap (λ b. is_string (value_tree v) && b) (are_all vs)
-
--- the tree of a list of values
-pub tree_of_list : (vs : Vec Value) → value_tree (values.List vs) ≡ list (trees_of (map value_tree vs.items))
-tree_of_list vs = search (rules, the_lemmas)
-
--- values that are some, and all strings
-pub some_strings : (vs : List Value) (r : Bool) → (length vs == 0) ≡ false → r ≡ list_all (λ v. is_string (value_tree v)) vs → r ≡ are_string_values vs
-some_strings [] r some all = absurd (false≢true (sym some))
-some_strings (v ∷ vs) r some all = all
-
--- the tree of a value that is a list of strings, or isn't
-pub string_list_tree : (value : Value) (vs : Vec Value) (r : Bool) → value ≡ values.List vs → r ≡ are_string_values vs.items → is_string_list (value_tree value) ≡ r
-string_list_tree value vs r is e = ap (λ v. is_string_list (value_tree v)) is ∙ ap is_string_list (tree_of_list vs) ∙ string_list_is vs.items ∙ sym e
-
--- the same of a list of leaves alone
+-- strings in a list of leaves alone
 texts_are_all : (ts : List Token) → are_strings (trees_of (map leaf ts)) ≡ list_all (λ t. is_text t.kind) ts
 texts_are_all [] = refl
 texts_are_all (t ∷ ts) = ap (λ b. is_text t.kind && b) (texts_are_all ts)
@@ -67,8 +36,33 @@ text_list_is : (ts : List Token) → is_string_list (list (trees_of (map leaf ts
 text_list_is [] = refl
 text_list_is (t ∷ ts) = ap (λ b. is_text t.kind && b) (texts_are_all ts)
 
-pub text_list_tree : (value : Value) (ts : Bor (List Token)) (r : Bool) → value ≡ values.Leaves ts → r ≡ are_text_tokens ts.now → is_string_list (value_tree value) ≡ r
-text_list_tree value ts r is e = ap (λ v. is_string_list (value_tree v)) is ∙ ap is_string_list (tree_of_flat ts) ∙ text_list_is ts.now ∙ sym e
+all_flat : (ts : List Token) → all_leaves (trees_of (map leaf ts)) ≡ ts
+all_flat [] = refl
+all_flat (t ∷ ts) = ap (λ us. t ∷ us) (all_flat ts)
+
+-- the leaves of a list of leaves alone
+pub flat_leaves : (value : ValueTree) (ts : List Token) → IsFlatList value ts → ts ≡ leaves value
+flat_leaves value ts is = sym (ap leaves is ∙ all_flat ts)
+
+-- they are strings where the list is one of strings
+pub flat_strings : (value : ValueTree) (ts : List Token) → IsFlatList value ts → is_string_list value ≡ are_text_tokens ts
+flat_strings value ts is = ap is_string_list is ∙ text_list_is ts
+
+strings_flat : (vs : ValueTrees) → are_strings vs ≡ true → (ts : List Token) × (vs ≡ trees_of (map leaf ts))
+strings_flat none e = ([], refl)
+strings_flat (more (leaf t) vs) e =
+    let rest = strings_flat vs (and_right (is_text t.kind) (are_strings vs) e) in
+    (t ∷ rest.0, ap (more (leaf t)) rest.1)
+strings_flat (more (list inner) vs) e = absurd (false≢true e)
+
+list_flat : (value : ValueTree) → is_string_list value ≡ true → (ts : List Token) × IsFlatList value ts
+list_flat (leaf t) e = absurd (false≢true e)
+list_flat (list none) e = absurd (false≢true e)
+list_flat (list (more v vs)) e = let flat = strings_flat (more v vs) e in (flat.0, ap list flat.1)
+
+-- a list of strings has no list inside
+pub no_strings : (value : ValueTree) → HasNoFlatList value → false ≡ is_string_list value
+no_strings value nested = sym (false_from_ne_true (is_string_list value) (λ e. let flat = list_flat value e in nested flat.0 flat.1))
 
 abbrev IsText : Token → Type 0
 IsText t = t.kind ≡ tokens.Text

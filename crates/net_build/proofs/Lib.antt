@@ -1,6 +1,5 @@
 pub mod PlaceLemmas
 pub mod AttributeLemmas
-pub mod LeafLemmas
 pub mod DecimalLemmas
 pub mod NumberLemmas
 pub mod PlainParts

@@ -18,6 +18,7 @@ use Rattle.net_parser.specs.declared.trees.BlockKind.TheVariants.{Node, Decision
 use Rattle.net_parser.specs.Trees.{ValueTree, ValueTrees, leaf, list, none, more, AttributeTree, BlockTree}
 use Rattle.net_parser.specs.Grammar.{is_potential}
 use Rattle.net_parser.specs.Owned.{leaves}
+pub use Rattle.net_parser.specs.Views.{no_token}
 
 -- a block of a chance node, a decision or a utility
 abbrev pub is_node : BlockKind → Bool
@@ -39,10 +40,6 @@ abbrev pub kind_of : BlockKind → Kind
 kind_of Node = model.Chance
 kind_of Decision = model.Decision
 kind_of kind = model.Utility
-
--- what stands for a token that isn't there
-abbrev pub no_token : Token
-no_token = record { kind = tokens.Word; start = 0; end = 0 }
 
 -- a node block's name, and a potential's head
 abbrev pub title : BlockTree → Token

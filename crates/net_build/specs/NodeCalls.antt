@@ -1,6 +1,5 @@
 -- What the calls that read node blocks promise.
 use Rattle.std.specs.Prelude.{◌≡◌, ◌++◌, ◌∷◌, ℕ, false, Contains, List, [], Option, MatchOption, OnOk, Result, map}
-use Rattle.std.specs.Borrow.{Bor}
 use Rattle.std.specs.Global.{Vec}
 use Rattle.std.specs.Option.{SomeIff}
 use Rattle.first_fault.specs.Answers.{Passes}
@@ -71,9 +70,9 @@ abbrev pub attribute_rows : List ℕ → BlockTree → Pass Found
 attribute_rows text block = repeats text block ▸ block_states_rows text block
 
 -- the string that a value is, and none exactly where it is no string
-abbrev pub IsStringOf : ValueTree → Option (Bor Token) → Type 0
+abbrev pub IsStringOf : ValueTree → Option Token → Type 0
 IsStringOf value string =
-    MatchOption string (is_string value ≡ false) (λ token. value ≡ leaf token.now)
+    MatchOption string (is_string value ≡ false) (λ token. value ≡ leaf token)
 
 -- these are the labels that the block says
 abbrev pub AreLabelsOf : List ℕ → BlockTree → Vec (Vec ℕ) → Type 0

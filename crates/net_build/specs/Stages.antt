@@ -1,5 +1,5 @@
 -- What the steps of building hand to one another, as plain lists.
-use Rattle.std.specs.Prelude.{◌≡◌, ◌≢◌, ◌<◌, ◌≤◌, ◌*◌, ℕ, ℤ, Bool, false, List, [], ◌∷◌, if◌then◌else◌, map, length, filter, drop, flat_map, sum, All, Option, nat_abs, slice_index_or}
+use Rattle.std.specs.Prelude.{◌≡◌, ◌≢◌, ◌<◌, ◌≤◌, ◌*◌, ℕ, ℤ, Bool, false, List, [], ◌∷◌, if◌then◌else◌, map, length, filter, drop, sum, All, Option, nat_abs, slice_index_or}
 use Rattle.std.specs.List.{range_with_len, list_all}
 use Rattle.maid_model.specs.declared.limits.TheConstants.{MOST_CELLS, MOST_PARENTS, MOST_RULE_CELLS}
 use Rattle.diagram_graph.specs.Cycles.{ListedArc}
@@ -11,23 +11,11 @@ use Rattle.maid_model.specs.Nodes.{is_decision, rows_under}
 use Rattle.maid_model.specs.Tables.{IsTable}
 use Rattle.net_lexer.specs.declared.tokens.Token.{Token}
 use Rattle.maid_model.specs.Views.{NodeView, DiagramView}
-use Rattle.net_parser.specs.Owned.{leaves}
 use Rattle.net_parser.specs.Trees.{BlockTree}
-use Rattle.net_parser.specs.Views.{value_tree}
-use Rattle.net_parser.specs.declared.trees.Value.{Value}
 use Rattle.net_build.specs.declared.nodes.Head.{Head}
-use Rattle.net_build.specs.Blocks.{is_string, is_text, kind_of, title_at, names_of, block_labels, has_agent, block_states, owner_texts, agents_of, with_sights, owner_numbers, potential_list, parent_lists}
+use Rattle.net_build.specs.Blocks.{is_text, kind_of, title_at, names_of, block_labels, has_agent, block_states, owner_texts, agents_of, with_sights, owner_numbers, potential_list, parent_lists}
 use Rattle.std.specs.Global.{Vec}
 use Rattle.net_build.specs.Lists.{numbers_of_lists, cells_of_lists}
-
--- the leaves of these values, from left to right
-abbrev pub leaves_in : List Value → List Token
-leaves_in values = flat_map (λ v. leaves (value_tree v)) values
-
--- one or more strings
-abbrev pub are_string_values : List Value → Bool
-are_string_values [] = false
-are_string_values (v ∷ vs) = list_all (λ w. is_string (value_tree w)) (v ∷ vs)
 
 -- one or more tokens, and each is a string
 abbrev pub are_text_tokens : List Token → Bool

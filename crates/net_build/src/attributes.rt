@@ -17,7 +17,7 @@ pub fn word_of<'a>(text: &'a [u8], attribute: &Attribute<'_>) -> &'a [u8]
     requires { IsAttributeOf text.now attribute.now }
     ensures { result.now ≡ word_of text.now attribute.now }
 {
-    attribute.name.bytes(text)
+    attribute.name().bytes(text)
 }
 
 /// The attribute has that name.
@@ -128,7 +128,7 @@ fn check_counted(
 {
     for (place, attribute) in attributes.iter().enumerate() {
         if is_repeated(text, kind, &attributes[..place], attribute) {
-            return Err(BuildKind::DoubleAttribute.at(attribute.name.start));
+            return Err(BuildKind::DoubleAttribute.at(attribute.name().start));
         }
     }
     Ok(())

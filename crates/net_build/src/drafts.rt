@@ -22,7 +22,7 @@ use crate::scales::scaled_cells;
 use crate::weights::weights;
 use maid_model::Kind;
 use net_lexer::Token;
-use net_parser::{Attribute, Block, Value};
+use net_parser::{Attribute, Block};
 use std::alloc::{AllocError, Global};
 use weight_scale::Decimal;
 
@@ -55,7 +55,7 @@ fn read_cells(
     let decimals = read_numbers(alloc, text, table, numerals, rows * head.states)?;
     match head.kind {
         Kind::Chance => {
-            let cells = weights(alloc, table.name.start, numerals, &decimals, head.states)?;
+            let cells = weights(alloc, table.name().start, numerals, &decimals, head.states)?;
             Ok(Draft::Cells(cells))
         }
         _ => Ok(Draft::Values(decimals)),
@@ -104,10 +104,10 @@ fn read_data(
         (head_data_part text.now head.now rows table.now) result }
     ensures draft { IfOk result (IsHeadDraft text.now head.now rows (leaves table.now.value)) }
 {
-    if let Value::Leaves(tokens) = &table.value {
+    if let Some(tokens) = table.value().flat_list() {
         return read_leaves(alloc, text, head, rows, table, tokens);
     }
-    let tokens = leaves(alloc, &table.value)?;
+    let tokens = leaves(alloc, table.value())?;
     read_leaves(alloc, text, head, rows, table, &tokens)
 }
 

@@ -1,23 +1,22 @@
 //! Labels of states: a list of strings as the value of `states`.
 
-ghost use Rattle.std.specs.Prelude.{◌≡◌, ◌<◌, All, map, length, nat_le, true, IfOk};
+ghost use Rattle.std.specs.Prelude.{◌≡◌, ◌<◌, All, map, length, nat_le, true, is_some, IfOk, IfSome};
 ghost use Rattle.std.specs.List.{list_all};
-ghost use Rattle.net_build.specs.Blocks.{title, is_label, is_string, is_string_list, is_text, has_states};
+ghost use Rattle.net_build.specs.Blocks.{title, is_label, is_string_list, is_text, has_states};
 ghost use Rattle.first_fault.specs.Passes.{each};
 ghost use Rattle.first_fault.specs.Answers.{Passes};
 ghost use Rattle.net_build.specs.Passes.{build_fault};
-ghost use Rattle.net_build.specs.Stages.{are_string_values, are_text_tokens};
+ghost use Rattle.net_build.specs.Stages.{are_text_tokens};
 ghost use Rattle.net_build.specs.Table.{label_row, label_rows};
 ghost use Rattle.net_lexer.specs.Token.{IsTokenOf, text_value};
 ghost use Rattle.net_lexer.specs.declared.tokens.TokenKind.TheVariants.{Text};
-ghost use Rattle.net_parser.specs.Owned.{IsAttributeOf, IsBlockOf};
+ghost use Rattle.net_parser.specs.Owned.{IsAttributeOf, IsBlockOf, leaves};
 ghost use Rattle.net_parser.specs.Views.{value_tree};
 ghost use Rattle.net_build.specs.Answered.{AnswersTexts};
 ghost use Rattle.net_build.specs.NodeCalls.{AreLabelsOf, value_texts, written_states_rows};
 
 use crate::attributes::first_named;
 use crate::faults::{BuildFault, BuildKind, Limit};
-use crate::leaves::leaves;
 use maid_model::{MOST_NAME_BYTES, MOST_STATES};
 use net_lexer::{Token, TokenKind, text_value};
 use net_parser::{Attribute, Block, Value};
@@ -44,29 +43,6 @@ pub fn is_label(bytes: &[u8]) -> bool
     bytes.len() <= MOST_NAME_BYTES && are_printable(bytes)
 }
 
-fn is_string(value: &Value<'_>) -> bool
-    ensures { result ≡ is_string (value_tree value.now) }
-{
-    match value {
-        Value::Leaf(token) => token.kind == TokenKind::Text,
-        Value::Leaves(_) | Value::List(_) => false,
-    }
-}
-
-// Strings, if any.
-fn all_strings(values: &[Value<'_>]) -> bool
-    ensures { result ≡ list_all (λ v. is_string (value_tree v)) values.now }
-{
-    values.iter().all(is_string)
-}
-
-// One or more strings.
-fn are_strings(values: &[Value<'_>]) -> bool
-    ensures { result ≡ are_string_values values.now }
-{
-    !values.is_empty() && all_strings(values)
-}
-
 fn is_text(kind: TokenKind) -> bool
     ensures { result ≡ is_text kind }
 {
@@ -87,14 +63,14 @@ fn are_texts(tokens: &[Token]) -> bool
     !tokens.is_empty() && all_texts(tokens)
 }
 
-/// The value is a list of one or more strings.
-pub fn is_string_list(value: &Value<'_>) -> bool
-    ensures { result ≡ is_string_list (value_tree value.now) }
+/// The strings of a list of one or more, lent. Any other value has none here.
+pub fn listed_strings(value: Value<'_>) -> Option<&[Token]>
+    ensures found { is_some result ≡ is_string_list (value_tree value.entry) }
+    ensures strings { IfSome result (λ strings. strings.now ≡ leaves (value_tree value.entry)) }
 {
-    match value {
-        Value::Leaf(_) => false,
-        Value::Leaves(tokens) => are_texts(tokens),
-        Value::List(values) => are_strings(values),
+    match value.flat_list() {
+        Some(tokens) if are_texts(tokens) => Some(tokens),
+        _ => None,
     }
 }
 
@@ -136,11 +112,10 @@ fn state_labels(
     ensures rows { Passes build_fault (label_rows text.now states.now) result }
     ensures labels { AnswersTexts result (value_texts text.now states.now) }
 {
-    let at = states.name.start;
-    if !is_string_list(&states.value) {
+    let at = states.name().start;
+    let Some(strings) = listed_strings(states.value()) else {
         return Err(BuildKind::BadStates.at(at));
-    }
-    let strings = leaves(alloc, &states.value)?;
+    };
     if strings.len() > MOST_STATES {
         let passed = BuildKind::LimitPassed {
             which: Limit::States,
@@ -148,7 +123,7 @@ fn state_labels(
         };
         return Err(passed.at(at));
     }
-    labels(alloc, text, &strings)
+    labels(alloc, text, strings)
 }
 
 /// The labels of a chance node or a decision.

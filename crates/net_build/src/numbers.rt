@@ -83,6 +83,6 @@ pub fn read_numbers(
     ensures decimals { IfOk result (λ decimals. TellDecimals text.now numerals.now decimals.items) }
 {
     check_numbers(numerals)?;
-    check_count(table.name.start, want, numerals.len())?;
+    check_count(table.name().start, want, numerals.len())?;
     decimals(alloc, text, numerals)
 }

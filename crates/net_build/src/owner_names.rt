@@ -17,7 +17,7 @@ ghost use Rattle.net_build.specs.NodeCalls.{IsStringOf, as_bad_agent, value_text
 use crate::attributes::{is_named, names_owners, word_of};
 use crate::distinct_names::DistinctNames;
 use crate::faults::{BuildFault, BuildKind};
-use crate::labels::{is_label, is_string_list, labels};
+use crate::labels::{is_label, labels, listed_strings};
 use crate::leaves::leaves;
 use net_lexer::{Token, TokenKind, text_value};
 use net_parser::{Attribute, Block, BlockKind, Value};
@@ -42,19 +42,13 @@ fn first_telling<'a, 't>(
 }
 
 // The token of a string.
-fn string_token<'a>(value: &'a Value<'_>) -> Option<&'a Token>
-    ensures tree { IsStringOf (value_tree value.now) result }
-    ensures string { IfSome result (λ token. token.now.kind ≡ Text) }
+fn string_token(value: Value<'_>) -> Option<Token>
+    ensures tree { IsStringOf (value_tree value.entry) result }
+    ensures string { IfSome result (λ token. token.kind ≡ Text) }
 {
     match value {
-        Value::Leaf(token) => {
-            if token.kind == TokenKind::Text {
-                Some(token)
-            } else {
-                None
-            }
-        }
-        Value::Leaves(_) | Value::List(_) => None,
+        Value::Leaf(token) if token.kind == TokenKind::Text => Some(token),
+        _ => None,
     }
 }
 
@@ -65,11 +59,11 @@ fn one_name(alloc: Global, text: &[u8], agent: &Attribute<'_>) -> Result<Vec<Vec
     ensures rows { Passes build_fault (bad_agent_row text.now agent.now) result }
     ensures names { AnswersTexts result (value_texts text.now agent.now) }
 {
-    let at = agent.name.start;
-    let Some(token) = string_token(&agent.value) else {
+    let at = agent.name().start;
+    let Some(token) = string_token(agent.value()) else {
         return Err(BuildKind::BadAgent.at(at));
     };
-    let name = text_value(alloc, text, token)?;
+    let name = text_value(alloc, text, &token)?;
     if !is_label(&name) {
         return Err(BuildKind::BadAgent.at(at));
     }
@@ -99,12 +93,11 @@ fn listed_names(
     ensures rows { Passes build_fault (bad_agent_row text.now agents.now) result }
     ensures names { AnswersTexts result (value_texts text.now agents.now) }
 {
-    let at = agents.name.start;
-    if !is_string_list(&agents.value) {
+    let at = agents.name().start;
+    let Some(strings) = listed_strings(agents.value()) else {
         return Err(BuildKind::BadAgent.at(at));
-    }
-    let strings = leaves(alloc, &agents.value)?;
-    match labels(alloc, text, &strings) {
+    };
+    match labels(alloc, text, strings) {
         Ok(names) => Ok(names),
         Err(refused) => Err(bad_agent(refused, at)),
     }
@@ -188,7 +181,7 @@ fn told_names(
     ensures names { AnswersTexts result (texts_or_agent text.now (leaves agents.now.value)) }
 {
     let names = agent_names(alloc, text, agents)?;
-    let tokens = leaves(alloc, &agents.value)?;
+    let tokens = leaves(alloc, agents.value())?;
     check_distinct(alloc, text, &tokens, &names)?;
     Ok(names)
 }

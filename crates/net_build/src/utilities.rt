@@ -9,7 +9,6 @@ ghost use Rattle.net_build.specs.TableCalls.{AddsNumbers};
 
 use crate::attributes::first_named;
 use crate::labels::title;
-use crate::leaves::push_leaves;
 use crate::nodes::Nodes;
 use maid_model::Kind;
 use net_lexer::Token;
@@ -45,7 +44,7 @@ fn push_data(tokens: &mut Vec<Token>, text: &[u8], potential: &Block<'_>) -> Res
     ensures { AddsNumbers text.now potential.now tokens.old tokens.new result }
 {
     if let Some(table) = first_named(text, &potential.attributes, b"data") {
-        push_leaves(tokens, &table.value)?;
+        table.value().push_leaves(tokens)?;
     }
     Ok(())
 }

@@ -11,7 +11,7 @@ use Rattle.std.proofs.Common.{◌≡◌, ◌*◌, length, map, ap, sym, subst, �
 use Rattle.net_build.specs.Passes.{build_fault}
 use Rattle.net_build.specs.TableParts.{IsDraftOf, data_part, number_rows, weight_part}
 use Rattle.net_build.specs.declared.drafts.Draft.TheVariants.{Cells}
-use Rattle.net_parser.specs.Trees.{AttributeTree}
+use Rattle.net_lexer.specs.declared.tokens.Token.{Token}
 use Rattle.net_build.proofs.DraftLemmas.{chance_refused, chance_clear, same_count, divides_by}
 use Rattle.net_build.proofs.drafts.read_cells.Goals as goal
 
@@ -20,13 +20,13 @@ returns-in_err-cells-in-Chance-clause-rows c =
     let same = c.requires.numerals in
     let count : length c.args.numerals.now ≡ c.args.rows * c.args.head.now.states = ap length same ∙ same_count _ _ c.in_ok-decimals.ensures.rows.1.0 in
     hands_on build_fault (data_part c.args.text.now c.args.head.now.kind c.args.rows c.args.head.now.states c.args.table.now) _ _ c.from_residual-in_err-cells-in-Chance.ensures
-    (chance_refused c.args.text.now c.args.head.now.kind c.args.rows c.args.head.now.states _ c.args.table.now c.in-Chance.is c.in_ok-decimals.ensures.rows (ap (λ (a : AttributeTree). a.name.start) c.table.view_is) c.args.numerals.now c.in_err-cells-in-Chance.field-0.0 same (c.in_err-cells-in-Chance.ensures.rows c.args.text.now c.args.rows count (rw c.deref.ensures.value c.in_ok-decimals.ensures.decimals)))
+    (chance_refused c.args.text.now c.args.head.now.kind c.args.rows c.args.head.now.states _ c.args.table.now c.in-Chance.is c.in_ok-decimals.ensures.rows (ap (λ (t : Token). t.start) c.name.ensures) c.args.numerals.now c.in_err-cells-in-Chance.field-0.0 same (c.in_err-cells-in-Chance.ensures.rows c.args.text.now c.args.rows count (rw c.deref.ensures.value c.in_ok-decimals.ensures.decimals)))
 
 pub returns-in_ok-cells-in-Chance-clause-rows : goal.returns-in_ok-cells-in-Chance-clause-rows
 returns-in_ok-cells-in-Chance-clause-rows c =
     let same = c.requires.numerals in
     let count : length c.args.numerals.now ≡ c.args.rows * c.args.head.now.states = ap length same ∙ same_count _ _ c.in_ok-decimals.ensures.rows.1.0 in
-    chance_clear c.args.text.now c.args.head.now.kind c.args.rows c.args.head.now.states _ c.args.table.now c.in-Chance.is c.in_ok-decimals.ensures.rows (ap (λ (a : AttributeTree). a.name.start) c.table.view_is) c.args.numerals.now same (c.in_ok-cells-in-Chance.ensures.rows c.args.text.now c.args.rows count (rw c.deref.ensures.value c.in_ok-decimals.ensures.decimals))
+    chance_clear c.args.text.now c.args.head.now.kind c.args.rows c.args.head.now.states _ c.args.table.now c.in-Chance.is c.in_ok-decimals.ensures.rows (ap (λ (t : Token). t.start) c.name.ensures) c.args.numerals.now same (c.in_ok-cells-in-Chance.ensures.rows c.args.text.now c.args.rows count (rw c.deref.ensures.value c.in_ok-decimals.ensures.decimals))
 
 pub read_numbers-requires-clause-own : goal.read_numbers-requires-clause-own
 read_numbers-requires-clause-own c = c.requires.own

@@ -2,7 +2,6 @@
 use Rattle.std.proofs.Common.{ap, sym, ◌∙◌}
 use Rattle.net_build.specs.Table.{agent_rows}
 use Rattle.net_parser.specs.Owned.{leaves}
-use Rattle.net_parser.specs.Trees.{AttributeTree}
 use Rattle.first_fault.proofs.HandedOn.{hands_on}
 use Rattle.net_build.specs.Passes.{build_fault}
 use Rattle.net_build.proofs.OwnerNames.{told_badly, told_twice, told_well, texts_told}
@@ -13,12 +12,12 @@ returns-in_err-names-clause-rows c = hands_on build_fault (agent_rows c.args.tex
 
 pub returns-in_err-check_distinct-clause-rows : goal.returns-in_err-check_distinct-clause-rows
 returns-in_err-check_distinct-clause-rows c =
-    let tokens = c.deref.ensures.value ∙ c.in_ok-tokens.ensures ∙ ap (λ (a : AttributeTree). leaves a.value) c.agents.view_is in
+    let tokens = c.deref.ensures.value ∙ c.in_ok-tokens.ensures ∙ ap leaves c.value.ensures in
     hands_on build_fault (agent_rows c.args.text.now _) _ _ c.from_residual-in_err-check_distinct.ensures (told_twice c.args.text.now c.args.agents.now _ c.in_ok-names.ensures.rows (rw tokens at c.in_err-check_distinct.ensures))
 
 pub returns-clause-rows : goal.returns-clause-rows
 returns-clause-rows c =
-    let tokens = c.deref.ensures.value ∙ c.in_ok-tokens.ensures ∙ ap (λ (a : AttributeTree). leaves a.value) c.agents.view_is in
+    let tokens = c.deref.ensures.value ∙ c.in_ok-tokens.ensures ∙ ap leaves c.value.ensures in
     told_well c.args.text.now c.args.agents.now c.in_ok-names.ensures.rows (rw tokens at c.in_ok-check_distinct.ensures)
 
 pub returns-clause-names : goal.returns-clause-names
