@@ -12,15 +12,16 @@ use Rattle.net_parser.specs.Owned.{IsBlockOf}
 use Rattle.weight_scale.specs.declared.decimal.Decimal.{Decimal}
 use Rattle.net_build.specs.declared.nodes.Head.{Head}
 use Rattle.net_build.specs.declared.drafts.Draft.{Draft}
-use Rattle.net_build.specs.declared.drafts.Draft.TheVariants.{Cells, Values}
+use Rattle.net_build.specs.declared.drafts.Draft.TheVariants.{Cells, Values, Scaled}
 use Rattle.net_build.specs.Blocks.{no_token, node_blocks, kind_of, block_states, row_count, data_of, leaves_of, block_numbers}
 use Rattle.first_fault.specs.Passes.{each}
 use Rattle.net_build.specs.Scaling.{AreDecimals, decimal_at, IsWholeBy}
-use Rattle.net_build.specs.Stages.{NodeLists, head_of, node_lists, link_lists}
+use Rattle.net_build.specs.Stages.{NodeLists, LinkLists, head_at, head_of, head_rows, node_lists, link_lists}
 use Rattle.net_build.specs.Table.{IsWideValue, wide_row, node_pass, potential_pass, no_block}
-use Rattle.net_build.specs.TableParts.{AreDrafts, FitsDraft, Fits, HasDecimalsAtMost, Reaches, IsDraftOf, IsDraftAt, IsScaleOf, value_at_scale, values_in, values_of}
+use Rattle.net_build.specs.TableParts.{AreDrafts, FitsDraft, Fits, HasDecimalsAtMost, Reaches, IsDraftOf, IsDraftAt, IsScaleOf, numerals_in, potential_at, value_at_scale, values_in}
 use Rattle.net_build.specs.Zero.{nought}
 use Rattle.first_fault.proofs.Items.{each_all}
+use Rattle.net_build.proofs.RaisedCells.{few_to, fit_to, scale_enough}
 use Rattle.net_build.proofs.ScaleLemmas.{decimal_of, raised_is, fits_narrow, not_whole}
 use Rattle.net_build.proofs.TableEnd.{item_of, draft_here, values_at}
 use Rattle.net_build.proofs.TableFacts.{values_of_nodes}
@@ -41,6 +42,7 @@ values_good text scale tokens ds are few fits i t h =
 -- a utility's draft that fits
 draft_good : (text : List ℕ) (scale rows states : ℕ) (kind : Kind) (tokens : List Token) (draft : Draft) → kind ≡ model.Utility → IsDraftOf kind rows states (map (token_bytes text) tokens) draft → FitsDraft scale draft → All (IsGood text scale) tokens
 draft_good text scale rows states model.Utility tokens (Values ds) utility is fits = values_good text scale tokens ds.items is.0 fits.0 fits.1
+draft_good text scale rows states model.Utility tokens (Scaled cells k) utility is fits = values_good text scale tokens is.0 is.1 (few_to is.0 k cells.items is.2 scale fits.0) (fit_to is.0 k cells.items is.2 scale fits.0 fits.1)
 draft_good text scale rows states model.Utility tokens (Cells cells) utility is fits = absurd is
 draft_good text scale rows states model.Chance tokens draft utility is fits = absurd (differ utility) where
   differ : model.Chance ≡ model.Utility → ⊥
@@ -56,10 +58,32 @@ values_least text most k tokens ds i are h is fewer all =
     not_whole (token_bytes text (get_or tokens i no_token)) (decimal_at ds i) k (decimal_of text tokens ds i no_token are within) (omega (arith, is, fewer)) (all i no_token within)
 
 draft_least : (text : List ℕ) (most k rows states : ℕ) (kind : Kind) (tokens : List Token) (draft : Draft) → Reaches most draft → IsDraftOf kind rows states (map (token_bytes text) tokens) draft → k < most → (kind ≡ model.Utility → All (λ t. IsWholeBy k (token_bytes text t)) tokens) → ⊥
-draft_least text most k rows states kind tokens (Cells cells) (i, h, at) is fewer all = omega (arith, h)
+draft_least text most k rows states kind tokens (Cells cells) reached is fewer all = reached
 draft_least text most k rows states model.Utility tokens (Values ds) (i, h, at) is fewer all = values_least text most k tokens ds.items i is.0 h at fewer (all refl)
+draft_least text most k rows states model.Utility tokens (Scaled cells own) reached is fewer all =
+    let one = is.2.reached (omega (arith, reached, fewer)) in
+    values_least text most k tokens is.0 one.0 is.1 one.1 (one.2 ∙ reached) fewer (all refl)
 draft_least text most k rows states model.Chance tokens (Values ds) reached is fewer all = is
+draft_least text most k rows states model.Chance tokens (Scaled cells own) reached is fewer all = is
 draft_least text most k rows states model.Decision tokens (Values ds) reached is fewer all = is
+draft_least text most k rows states model.Decision tokens (Scaled cells own) reached is fewer all = is
+
+-- more decimals than the most
+more_enough : (before now : ℕ) (draft : Draft) → before ≤ now → HasDecimalsAtMost before draft → HasDecimalsAtMost now draft
+more_enough before now (Cells cells) more few = tt
+more_enough before now (Values ds) more few = λ i d h. omega (arith, more, few i d h)
+more_enough before now (Scaled cells k) more few = omega (arith, more, few)
+
+-- no draft of a text has more decimals than a number may have
+draft_few : (kind : Kind) (rows states : ℕ) (numerals : List (List ℕ)) (draft : Draft) → IsDraftOf kind rows states numerals draft → HasDecimalsAtMost 30 draft
+draft_few kind rows states numerals (Cells cells) is = tt
+draft_few kind rows states numerals (Values ds) is = λ i d h. (get_or ds.items i d).few
+draft_few model.Utility rows states numerals (Scaled cells k) is = scale_enough is.0 k cells.items 30 is.2 (λ i d h. (get_or is.0 i d).few)
+draft_few model.Chance rows states numerals (Scaled cells k) is = absurd is
+draft_few model.Decision rows states numerals (Scaled cells k) is = absurd is
+
+pub drafts_few : (text : List ℕ) (heads : List Head) (links : LinkLists) (drafts : List Draft) → AreDrafts text heads links drafts → All (HasDecimalsAtMost 30) drafts
+drafts_few text heads links drafts are v d h = draft_few (head_at heads v).kind (head_rows heads links.parents v) (head_at heads v).states (numerals_in text (potential_at links v)) (get_or drafts v d) (are.each v d h)
 
 -- the most decimals of the drafts so far and of one more
 pub most_next : (drafts : List Draft) (i : ℕ) (draft : Draft) (before here now : ℕ) → draft ≡ get_or drafts i draft → i < length drafts → ((k : ℕ) (d : Draft) → k < i → HasDecimalsAtMost before (get_or drafts k d)) → HasDecimalsAtMost here draft → before ≤ now → here ≤ now → (k : ℕ) (d : Draft) → k < i + 1 → HasDecimalsAtMost now (get_or drafts k d)
@@ -68,14 +92,12 @@ most_next drafts i draft before here now is within so its old new k d near = by_
   split a b l = grind arith
 
   by_place : (k < i) ⊎ (k ≡ i) → HasDecimalsAtMost now (get_or drafts k d)
-  by_place (inl l) = λ j e w. let few = so k d l j e w in omega (arith, old, few)
-  by_place (inr at) = subst (λ n. HasDecimalsAtMost now (get_or drafts n d)) (sym at) (subst (HasDecimalsAtMost now) (is ∙ get_or_default drafts i draft d within) (λ j e w. let few = its j e w in omega (arith, new, few)))
+  by_place (inl l) = more_enough before now (get_or drafts k d) old (so k d l)
+  by_place (inr at) = subst (λ n. HasDecimalsAtMost now (get_or drafts n d)) (sym at) (subst (HasDecimalsAtMost now) (is ∙ get_or_default drafts i draft d within) (more_enough here now draft new its))
 
 -- one of the draft's values has them
-pub reached_here : (drafts : List Draft) (i : ℕ) (draft : Draft) (ds : List Decimal) (here now : ℕ) → draft ≡ get_or drafts i draft → i < length drafts → ds ≡ values_of draft → now ≡ here → (0 < here → (j : ℕ) × (j < length ds) × ((decimal_at ds j).k ≡ here)) → 0 < now → (x : Draft) × Contains drafts x × Reaches now x
-reached_here drafts i draft ds here now is within same new reached some =
-    let r = reached (subst (λ n. 0 < n) new some) in
-    (draft, (i, within, sym is), (r.0, subst (λ es. r.0 < length es) same r.1, subst (λ es. (decimal_at es r.0).k ≡ now) same (r.2 ∙ sym new)))
+pub reached_here : (drafts : List Draft) (i : ℕ) (draft : Draft) (here now : ℕ) → draft ≡ get_or drafts i draft → i < length drafts → now ≡ here → (0 < here → Reaches here draft) → 0 < now → (x : Draft) × Contains drafts x × Reaches now x
+reached_here drafts i draft here now is within new reached some = (draft, (i, within, sym is), subst (λ n. Reaches n draft) (sym new) (reached (subst (λ n. 0 < n) new some)))
 
 module _ (text : List ℕ) (blocks : List BlockTree) (own : All (IsBlockOf text) blocks) (node_none : node_pass text blocks None) (potential_none : potential_pass text blocks None) (scale : ℕ) (drafts : List Draft) where
   abbrev nodes : List BlockTree

@@ -38,6 +38,7 @@ pub mod SizeLemmas
 pub mod PotentialLemmas
 pub mod FitLemmas
 pub mod LinkPasses
+pub mod RaisedCells
 pub mod RowDivisors
 pub mod PlainTables
 pub mod NameLemmas

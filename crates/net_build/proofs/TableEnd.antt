@@ -1,5 +1,5 @@
 -- The utilities' numbers to their scale, and what the finished tables are.
-use Rattle.std.proofs.Common.{◌≡◌, ◌⊎◌, inl, inr, ◌<◌, ◌≤◌, ◌-◌, ◌*◌, ◌/◌, ◌^◌, ℕ, zero, suc, pos, unsigned_abs, true, List, [], ◌∷◌, All, length, get_or, map, Option, None, Some, refl, sym, ap, subst, ◌∙◌, arith}
+use Rattle.std.proofs.Common.{◌≡◌, ◌⊎◌, inl, inr, ◌<◌, ◌≤◌, ◌-◌, ◌*◌, ◌/◌, ◌^◌, ℕ, ℤ, zero, suc, pos, unsigned_abs, true, List, [], ◌∷◌, All, length, get_or, map, Option, None, Some, refl, sym, ap, subst, ◌∙◌, arith}
 use Rattle.std.specs.Option.{option_map_or}
 use Rattle.std.proofs.lemmas.Int.{unsigned_abs-mul}
 use Rattle.std.proofs.lemmas.List.{get_or-map, get_or_default, length-map}
@@ -15,15 +15,15 @@ use Rattle.weight_scale.specs.declared.decimal.Decimal.{Decimal}
 use Rattle.weight_scale.specs.Numeral.{numerator, denominator, IsLeastDecimalOf}
 use Rattle.net_build.specs.declared.nodes.Head.{Head}
 use Rattle.net_build.specs.declared.drafts.Draft.{Draft}
-use Rattle.net_build.specs.declared.drafts.Draft.TheVariants.{Cells, Values}
+use Rattle.net_build.specs.declared.drafts.Draft.TheVariants.{Cells, Values, Scaled}
 use Rattle.net_build.specs.Blocks.{no_token, is_node, potentials, is_number, node_blocks, kind_of, block_states, row_count, block_name, potential_of, parent_lists, data_of, leaves_of, block_numbers, word_of}
-use Rattle.net_build.specs.Building.{AreTables, IsTableFrom}
+use Rattle.net_build.specs.Building.{AreTables, AreUtilityCells, IsTableFrom}
 use Rattle.first_fault.specs.Passes.{Pass, each}
 use Rattle.net_build.specs.Passes.{Found}
 use Rattle.net_build.specs.Scaling.{AreDecimals, decimal_at, IsWholeBy}
 use Rattle.net_build.specs.Stages.{AreLinks, NodeLists, LinkLists, TablesFit, FitsTable, head_of, head_at, node_lists, link_lists, no_head, head_rows}
 use Rattle.net_build.specs.Table.{length_row, wide_row, IsWideValue, node_pass, potential_pass, missing_pass, table_pass, no_block}
-use Rattle.net_build.specs.TableParts.{AreDrafts, CanReadTables, FitsDraft, Fits, IsDraftOf, IsDraftAt, IsScaleOf, data_parts, finished, node_part, numerals_in, potential_at, value_at_scale, values_in}
+use Rattle.net_build.specs.TableParts.{AreDrafts, AreScaled, CanReadTables, FitsDraft, Fits, FitsRaised, IsDraftOf, IsDraftAt, IsScaleOf, data_parts, finished, node_part, numerals_in, potential_at, value_at_scale, values_in}
 use Rattle.net_build.specs.Zero.{nought}
 use Rattle.net_build.proofs.BlockLemmas.{all_filter, found_in}
 use Rattle.net_build.proofs.WeightPasses.{rows_are}
@@ -33,6 +33,7 @@ use Rattle.net_parser.specs.declared.trees.BlockKind.{BlockKind}
 use Rattle.net_parser.specs.declared.trees.BlockKind.TheVariants.{Net, Node, Decision, Utility, Potential}
 use Rattle.net_parser.specs.Grammar.{is_potential}
 use Rattle.net_build.proofs.NumberLemmas.{all_numbers}
+use Rattle.net_build.proofs.RaisedCells.{few_to, fit_from, fit_to, raised_are, scale_enough}
 use Rattle.net_build.proofs.ScaleLemmas.{decimal_of, cells_found, not_whole, unfit_wide}
 use Rattle.net_build.proofs.TableFacts.{value_of_node, values_of_nodes, can_read}
 use Rattle.net_build.proofs.TablePasses.{head_here, potential_here, rows_here, part_none, nodes_are}
@@ -102,19 +103,31 @@ values_fit text tokens ds scale are all = (λ k d h. subst (λ (e : Decimal). e.
     few : (k : ℕ) → k < length tokens → (decimal_at ds k).k ≤ scale
     few k h = few_by text (token_bytes text (get_or tokens k no_token)) (decimal_at ds k) scale (its k h) (all k no_token h).0
 
+-- the same of a utility's cells
+scaled_fits : (ds : List Decimal) (k : ℕ) (cells : List ℤ) (scale : ℕ) → AreScaled ds k cells → All (λ d. d.k ≤ scale) ds × All (Fits scale) ds → (k ≤ scale) × All (FitsRaised (scale - k)) cells
+scaled_fits ds k cells scale are fit =
+    let enough : k ≤ scale = scale_enough ds k cells scale are fit.0 in
+    (enough, fit_from ds k cells are scale enough fit.1)
+
 -- a draft by its kind
 draft_fits : (text : List ℕ) (scale rows states : ℕ) (kind : Kind) (tokens : List Token) (draft : Draft) → IsDraftOf kind rows states (map (token_bytes text) tokens) draft → (kind ≡ model.Utility → All (λ t. IsWholeBy scale (token_bytes text t) × (IsWideValue scale (token_bytes text t) → ⊥)) tokens) → FitsDraft scale draft
 draft_fits text scale rows states kind tokens (Cells cells) is all = tt
 draft_fits text scale rows states model.Utility tokens (Values ds) is all = values_fit text tokens ds.items scale is.0 (all refl)
+draft_fits text scale rows states model.Utility tokens (Scaled cells k) is all = scaled_fits is.0 k cells.items scale is.2 (values_fit text tokens is.0 scale is.1 (all refl))
 draft_fits text scale rows states model.Chance tokens (Values ds) is all = absurd is
+draft_fits text scale rows states model.Chance tokens (Scaled cells k) is all = absurd is
 draft_fits text scale rows states model.Decision tokens (Values ds) is all = absurd is
+draft_fits text scale rows states model.Decision tokens (Scaled cells k) is all = absurd is
 
 draft_table : (scale rows states : ℕ) (kind : Kind) (numerals : List (List ℕ)) (draft : Draft) → IsDraftOf kind rows states numerals draft → FitsDraft scale draft → IsTableFrom kind scale states numerals (finished scale draft)
 draft_table scale rows states model.Chance numerals (Cells cells) is fits = (is.0, is.2.scaled, is.1, is.2.is, is.2.cells_are)
 draft_table scale rows states model.Decision numerals (Cells cells) is fits = is
 draft_table scale rows states model.Utility numerals (Values ds) is fits = cells_found numerals ds.items scale is.0 fits.0
+draft_table scale rows states model.Utility numerals (Scaled cells k) is fits = subst (AreUtilityCells scale numerals) (sym (raised_are is.0 k cells.items is.2 scale fits.0)) (cells_found numerals is.0 scale is.1 (few_to is.0 k cells.items is.2 scale fits.0))
 draft_table scale rows states model.Chance numerals (Values ds) is fits = absurd is
+draft_table scale rows states model.Chance numerals (Scaled cells k) is fits = absurd is
 draft_table scale rows states model.Decision numerals (Values ds) is fits = absurd is
+draft_table scale rows states model.Decision numerals (Scaled cells k) is fits = absurd is
 draft_table scale rows states model.Utility numerals (Cells cells) is fits = absurd is
 
 raised_small : (d : Decimal) (scale : ℕ) → Fits scale d → unsigned_abs (value_at_scale scale d) ≤ greatest_number
@@ -128,14 +141,20 @@ all_small ds scale all k d within =
 whole_rows : (rows states n : ℕ) → 0 < states → n ≡ rows * states → n / states ≡ rows
 whole_rows rows states n some e = sym (rows_are rows states n n some e refl)
 
+values_limits : (ds : List Decimal) (scale rows states : ℕ) → states ≡ 1 → length ds ≡ rows * states → All (Fits scale) ds → FitsTable model.Utility rows states (map (value_at_scale scale) ds)
+values_limits ds scale rows states one count fit = (length-map ds (value_at_scale scale) ∙ count ∙ ap (λ n. rows * n) one ∙ times_one rows, all_small ds scale fit) where
+  times_one : (n : ℕ) → n * 1 ≡ n
+  times_one n = omega arith
+
 draft_limits : (scale rows states : ℕ) (kind : Kind) (numerals : List (List ℕ)) (draft : Draft) → 0 < states → (kind ≡ model.Utility → states ≡ 1) → IsDraftOf kind rows states numerals draft → FitsDraft scale draft → FitsTable kind rows states (finished scale draft)
 draft_limits scale rows states model.Chance numerals (Cells cells) some one is fits = (is.2.scaled.total, is.2.is.common.positive, is.2.is.small, subst (λ n. IsTable cells.items n states is.2.scaled.total) (whole_rows rows states (length is.0) some is.3) is.2.table)
 draft_limits scale rows states model.Decision numerals (Cells cells) some one is fits = is
-draft_limits scale rows states model.Utility numerals (Values ds) some one is fits = (length-map ds.items (value_at_scale scale) ∙ is.1 ∙ ap (λ n. rows * n) (one refl) ∙ times_one rows, all_small ds.items scale fits.1) where
-  times_one : (n : ℕ) → n * 1 ≡ n
-  times_one n = omega arith
+draft_limits scale rows states model.Utility numerals (Values ds) some one is fits = values_limits ds.items scale rows states (one refl) is.1 fits.1
+draft_limits scale rows states model.Utility numerals (Scaled cells k) some one is fits = subst (FitsTable model.Utility rows states) (sym (raised_are is.0 k cells.items is.2 scale fits.0)) (values_limits is.0 scale rows states (one refl) is.3 (fit_to is.0 k cells.items is.2 scale fits.0 fits.1))
 draft_limits scale rows states model.Chance numerals (Values ds) some one is fits = absurd is
+draft_limits scale rows states model.Chance numerals (Scaled cells k) some one is fits = absurd is
 draft_limits scale rows states model.Decision numerals (Values ds) some one is fits = absurd is
+draft_limits scale rows states model.Decision numerals (Scaled cells k) some one is fits = absurd is
 draft_limits scale rows states model.Utility numerals (Cells cells) some one is fits = absurd is
 
 pub one_state : (text : List ℕ) (b : BlockTree) → is_node b.kind ≡ true → kind_of b.kind ≡ model.Utility → block_states text b ≡ 1

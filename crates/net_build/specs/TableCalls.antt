@@ -1,5 +1,5 @@
 -- What the calls that read tables promise, over a node's head and over its potential.
-use Rattle.std.specs.Prelude.{◌≡◌, ◌<◌, ◌*◌, ◌++◌, ℕ, ℤ, true, Contains, List, None, Option, OnOk, Result, length}
+use Rattle.std.specs.Prelude.{◌≡◌, ◌*◌, ◌++◌, ℕ, ℤ, true, Contains, List, None, Option, OnOk, Result}
 use Rattle.std.specs.Borrow.{Bor}
 use Rattle.std.specs.Global.{Vec}
 use Rattle.std.specs.Option.{SomeIff}
@@ -10,14 +10,12 @@ use Rattle.net_lexer.specs.declared.tokens.Token.{Token}
 use Rattle.net_parser.specs.Owned.{IsBlockOf}
 use Rattle.net_parser.specs.Trees.{AttributeTree, BlockTree}
 use Rattle.net_parser.specs.Grammar.{is_potential}
-use Rattle.weight_scale.specs.declared.decimal.Decimal.{Decimal}
 use Rattle.net_build.specs.declared.faults.BuildFault.{BuildFault}
 use Rattle.net_build.specs.declared.drafts.Draft.{Draft}
 use Rattle.net_build.specs.declared.nodes.Head.{Head}
 use Rattle.net_build.specs.Blocks.{data_of, leaves_of}
 use Rattle.net_build.specs.Linking.{borrowed_tree}
 use Rattle.net_build.specs.Passes.{Found, build_fault}
-use Rattle.net_build.specs.Scaling.{decimal_at}
 use Rattle.net_build.specs.Stages.{NodeLists}
 use Rattle.net_build.specs.Table.{graph_pass, missing_pass, potential_pass, size_pass, table_pass, wide_pass, wide_row}
 use Rattle.net_build.specs.TableParts.{ArePlainNumbers, IsDraftFrom, IsDraftOf, IsFewDigits, IsScaleOf, Reaches, data_part, few_number, node_part, numerals_in, scaled_pass, table_part, values_in}
@@ -62,11 +60,6 @@ IsFewNumber text token number = SomeIff number (IsFewDigits text token) (few_num
 abbrev pub LacksPlainNumbers : List ℕ → Head → ℕ → List Token → Type 0
 LacksPlainNumbers text head rows tokens =
     head.kind ≡ Chance → ArePlainNumbers text head.states (rows * head.states) tokens → ⊥
-
--- one of the decimals has so many digits behind its point
-abbrev pub IsReachedIn : List Decimal → ℕ → Type 0
-IsReachedIn decimals most =
-    (i : ℕ) × (i < length decimals) × ((decimal_at decimals i).k ≡ most)
 
 -- a value of one of the drafts has so many
 abbrev pub IsReachedByOne : List Draft → ℕ → Type 0

@@ -18,7 +18,7 @@ use Rattle.weight_scale.specs.Scaling.{IsScaled, NoneNegative, NoZeroRow}
 use Rattle.weight_scale.specs.Views.{ScaledView}
 use Rattle.weight_scale.specs.declared.decimal.Decimal.{Decimal}
 use Rattle.net_build.specs.declared.drafts.Draft.{Draft}
-use Rattle.net_build.specs.declared.drafts.Draft.TheVariants.{Cells, Values}
+use Rattle.net_build.specs.declared.drafts.Draft.TheVariants.{Cells, Values, Scaled}
 use Rattle.net_build.specs.Blocks.{block_name, data_of, leaves_of, is_number, no_token}
 use Rattle.net_build.specs.Scaling.{AreDecimals, decimal_at, TellDecimals}
 use Rattle.net_build.specs.Stages.{NodeLists, LinkLists, head_at, head_rows, AreLinks}
@@ -37,6 +37,28 @@ value_at_scale scale d = d.m *ℤ pos (10 ^ (scale - d.k))
 -- that is within the limits
 abbrev pub Fits : ℕ → Decimal → Type 0
 Fits scale d = nat_abs d.m * 10 ^ (scale - d.k) ≤ greatest_number
+
+-- one of the decimals has so many digits behind its point
+abbrev pub IsReachedIn : List Decimal → ℕ → Type 0
+IsReachedIn decimals most =
+    (i : ℕ) × (i < length decimals) × ((decimal_at decimals i).k ≡ most)
+
+-- the cells are the decimals times 10^k, where k is the most digits that one has behind its point
+pub record AreScaled (decimals : List Decimal) (k : ℕ) (cells : List ℤ) : Type 0 where
+  -- none has more
+  pub most : All (λ d. d.k ≤ k) decimals
+  -- one has so many, unless all are whole
+  pub reached : 0 < k → IsReachedIn decimals k
+  -- each is a cell
+  pub cells_are : cells ≡ map (value_at_scale k) decimals
+
+-- the cell times 10^more
+abbrev pub raised_by : ℕ → ℤ → ℤ
+raised_by more cell = cell *ℤ pos (10 ^ more)
+
+-- that is within the limits
+abbrev pub FitsRaised : ℕ → ℤ → Type 0
+FitsRaised more cell = nat_abs cell * 10 ^ more ≤ greatest_number
 
 -- the cells are the weights of the rows, and make a table within the limits
 pub record IsWeighed (decimals : List Decimal) (states : ℕ) (cells : List ℤ) : Type 0 where
@@ -98,6 +120,9 @@ IsDraftOf Chance rows states numerals (Cells cells) = (decimals : List Decimal)
 IsDraftOf Decision rows states numerals (Cells cells) = cells.items ≡ []
 IsDraftOf Utility rows states numerals (Values decimals) =
     AreDecimals numerals decimals.items × (length decimals.items ≡ rows * states)
+IsDraftOf Utility rows states numerals (Scaled cells k) = (decimals : List Decimal)
+    × AreDecimals numerals decimals × AreScaled decimals k cells.items
+    × (length decimals ≡ rows * states)
 IsDraftOf kind rows states numerals draft = ⊥
 
 -- the same from tokens of the text
@@ -105,30 +130,36 @@ abbrev pub IsDraftFrom : List ℕ → Kind → ℕ → ℕ → List Token → Dr
 IsDraftFrom text kind rows states tokens draft =
     IsDraftOf kind rows states (map (token_bytes text) tokens) draft
 
--- the values that are still to be scaled
-abbrev pub values_of : Draft → List Decimal
-values_of (Cells cells) = []
-values_of (Values decimals) = decimals.items
+-- what is kept of a utility's values: their cells, or the values themselves
+abbrev pub IsValueDraft : List Decimal → Draft → Type 0
+IsValueDraft decimals (Cells cells) = ⊥
+IsValueDraft decimals (Values same) = same.items ≡ decimals
+IsValueDraft decimals (Scaled cells k) = AreScaled decimals k cells.items
 
--- none of them has more decimals
+-- none of a utility's values has more decimals
 abbrev pub HasDecimalsAtMost : ℕ → Draft → Type 0
-HasDecimalsAtMost most draft = All (λ d. d.k ≤ most) (values_of draft)
+HasDecimalsAtMost most (Cells cells) = Unit {0}
+HasDecimalsAtMost most (Values decimals) = All (λ d. d.k ≤ most) decimals.items
+HasDecimalsAtMost most (Scaled cells k) = k ≤ most
 
 -- one of them has so many
 abbrev pub Reaches : ℕ → Draft → Type 0
-Reaches most draft =
-    (i : ℕ) × (i < length (values_of draft)) × ((decimal_at (values_of draft) i).k ≡ most)
+Reaches most (Cells cells) = ⊥
+Reaches most (Values decimals) = IsReachedIn decimals.items most
+Reaches most (Scaled cells k) = k ≡ most
 
 -- a utility's values are whole to that scale, and within the limits
 abbrev pub FitsDraft : ℕ → Draft → Type 0
 FitsDraft scale (Cells cells) = Unit {0}
 FitsDraft scale (Values decimals) =
     All (λ d. d.k ≤ scale) decimals.items × All (Fits scale) decimals.items
+FitsDraft scale (Scaled cells k) = (k ≤ scale) × All (FitsRaised (scale - k)) cells.items
 
 -- the cells to that scale
 abbrev pub finished : ℕ → Draft → List ℤ
 finished scale (Cells cells) = cells.items
 finished scale (Values decimals) = map (value_at_scale scale) decimals.items
+finished scale (Scaled cells k) = map (raised_by (scale - k)) cells.items
 
 -- the potential of a utility
 abbrev pub has_values : List ℕ → NodeLists → BlockTree → Bool

@@ -1,11 +1,11 @@
 //! The tables of nodes, one by one, before the scale of utilities is known.
 
-ghost use Rattle.std.specs.Prelude.{◌≡◌, ◌≢◌, ◌<◌, ◌≤◌, ◌*◌, true, IfOk, IfSome, IsSome};
+ghost use Rattle.std.specs.Prelude.{◌≡◌, ◌≢◌, ◌↔◌, ◌<◌, ◌≤◌, ◌*◌, true, IfOk, IfSome, IsSome, IsTrue};
 ghost use Rattle.maid_model.specs.declared.limits.TheConstants.{MOST_CELLS, MOST_DECIMALS};
 ghost use Rattle.maid_model.specs.declared.diagrams.Kind.TheVariants.{Decision};
 ghost use Rattle.first_fault.specs.Answers.{Passes};
 ghost use Rattle.net_build.specs.Passes.{build_fault};
-ghost use Rattle.net_build.specs.TableParts.{FitsDraft, finished, values_of};
+ghost use Rattle.net_build.specs.TableParts.{FitsDraft, HasDecimalsAtMost, IsValueDraft, Reaches, finished};
 ghost use Rattle.net_parser.specs.Owned.{IsAttributeOf, IsBlockOf, leaves};
 ghost use Rattle.net_parser.specs.Grammar.{is_potential};
 ghost use Rattle.net_build.specs.TableCalls.{IsDraftFromBlock, IsDraftUnder, IsHeadDraft, IsPotentialOf, PassesDraft, head_data_part};
@@ -18,7 +18,7 @@ use crate::leaves::leaves;
 use crate::nodes::Head;
 use crate::numbers::read_numbers;
 use crate::plain_tables::plain_draft;
-use crate::scales::scaled_cells;
+use crate::scales::{all_fit, can_raise, most_decimals, raise, scaled_cells};
 use crate::weights::weights;
 use maid_model::Kind;
 use net_lexer::Token;
@@ -26,12 +26,31 @@ use net_parser::{Attribute, Block};
 use std::alloc::{AllocError, Global};
 use weight_scale::Decimal;
 
-/// A node's table: its cells (none at a decision), or a utility's values, which are still to be
-/// scaled.
+/// A node's table, before the scale of all utilities is known.
 #[derive(Drop)]
 pub enum Draft {
+    /// A chance node's weights, or a decision's cells, which are none.
     Cells(Vec<i128>),
+    /// A utility's values, one of which is too great or too little to the scale that they need.
     Values(Vec<Decimal>),
+    /// Any other utility's values, each times 10^decimals, the most decimals that one of them has.
+    Scaled { cells: Vec<i128>, decimals: u32 },
+}
+
+// A utility's table. Its values as they are written take twice the room of its cells, and are kept
+// only where one of them is too great or too little.
+fn value_draft(alloc: Global, decimals: Vec<Decimal>) -> Result<Draft, AllocError>
+    ensures { IfOk result (IsValueDraft decimals.items) }
+{
+    let most = most_decimals(&decimals);
+    if !all_fit(&decimals, most) {
+        return Ok(Draft::Values(decimals));
+    }
+    let cells = scaled_cells(alloc, &decimals, most)?;
+    Ok(Draft::Scaled {
+        cells,
+        decimals: most,
+    })
 }
 
 // The table in the value of `data`, whose leaves these are.
@@ -58,7 +77,7 @@ fn read_cells(
             let cells = weights(alloc, table.name().start, numerals, &decimals, head.states)?;
             Ok(Draft::Cells(cells))
         }
-        _ => Ok(Draft::Values(decimals)),
+        _ => Ok(value_draft(alloc, decimals)?),
     }
 }
 
@@ -157,13 +176,30 @@ pub fn read_draft(
     }
 }
 
-/// The values that are still to be scaled: a utility's.
-pub fn values(draft: &Draft) -> &[Decimal]
-    ensures { result.now ≡ values_of draft.now }
+/// The most decimals that one of a utility's values has.
+pub fn most_in(draft: &Draft) -> u32
+    requires few { HasDecimalsAtMost MOST_DECIMALS draft.now }
+    ensures most { HasDecimalsAtMost result draft.now }
+    ensures reached { 0 < result → Reaches result draft.now }
+    ensures few { result ≤ MOST_DECIMALS }
 {
     match draft {
-        Draft::Cells(_) => &[],
-        Draft::Values(decimals) => decimals,
+        Draft::Cells(_) => 0,
+        Draft::Values(decimals) => most_decimals(decimals),
+        Draft::Scaled { decimals, .. } => *decimals,
+    }
+}
+
+/// Each of a utility's values, to scale, lies within the limits.
+pub fn draft_fits(draft: &Draft, scale: u32) -> bool
+    requires enough { HasDecimalsAtMost scale draft.now }
+    requires few { scale ≤ MOST_DECIMALS }
+    ensures { IsTrue result ↔ FitsDraft scale draft.now }
+{
+    match draft {
+        Draft::Cells(_) => true,
+        Draft::Values(decimals) => all_fit(decimals, scale),
+        Draft::Scaled { cells, decimals } => can_raise(cells, scale - decimals),
     }
 }
 
@@ -176,5 +212,12 @@ pub fn finish_draft(alloc: Global, draft: Draft, scale: u32) -> Result<Vec<i128>
     match draft {
         Draft::Cells(cells) => Ok(cells),
         Draft::Values(decimals) => scaled_cells(alloc, &decimals, scale),
+        Draft::Scaled {
+            mut cells,
+            decimals,
+        } => {
+            raise(&mut cells, scale - decimals);
+            Ok(cells)
+        }
     }
 }

@@ -9,10 +9,9 @@ ghost use Rattle.first_fault.specs.Passes.{each};
 ghost use Rattle.first_fault.specs.Answers.{Passes};
 ghost use Rattle.net_build.specs.Passes.{build_fault};
 ghost use Rattle.net_build.specs.Table.{length_row, wide_row};
-ghost use Rattle.net_build.specs.TableParts.{IsScaleOf, scaled_pass, value_at_scale, Fits, PassesValues};
+ghost use Rattle.net_build.specs.TableParts.{IsReachedIn, IsScaleOf, scaled_pass, value_at_scale, Fits, FitsRaised, PassesValues, raised_by};
 ghost use Rattle.net_lexer.specs.Token.{IsTokenOf};
 ghost use Rattle.weight_scale.specs.Numeral.{signed};
-ghost use Rattle.net_build.specs.TableCalls.{IsReachedIn};
 
 use crate::faults::{BuildFault, BuildKind};
 use crate::numbers::decimals;
@@ -120,4 +119,33 @@ pub fn scaled_cells(
         cells.push(cell)?;
     }
     Ok(cells)
+}
+
+/// Each cell times 10^decimals lies within the limits.
+pub fn can_raise(cells: &[i128], decimals: u32) -> bool
+    requires few { decimals ≤ MOST_DECIMALS }
+    ensures { IsTrue result ↔ All (FitsRaised decimals) cells.now }
+{
+    let most = GREATEST_NUMBER / 10u128.pow(decimals);
+    for cell in cells {
+        if cell.unsigned_abs() > most {
+            return false;
+        }
+    }
+    true
+}
+
+/// Multiplies each cell by 10^decimals.
+pub fn raise(cells: &mut [i128], decimals: u32)
+    requires few { decimals ≤ MOST_DECIMALS }
+    requires narrow { All (FitsRaised decimals) cells.old }
+    ensures { cells.new ≡ map (raised_by decimals) cells.old }
+{
+    if decimals == 0 {
+        return;
+    }
+    let tens = 10u128.pow(decimals) as i128;
+    for cell in cells.iter_mut() {
+        *cell *= tens;
+    }
 }

@@ -14,11 +14,11 @@ ghost use Rattle.net_parser.specs.Owned.{IsBlockOf};
 ghost use Rattle.net_build.specs.TableCalls.{AreNarrowValues, IsReachedByOne, IsValueScale, tables_pass, values_pass};
 ghost use Rattle.net_build.specs.TableSteps.{AreDraftsIn, PassesDrafts, PassesNodeTable};
 
-use crate::drafts::{Draft, finish_draft, read_draft, values};
+use crate::drafts::{Draft, draft_fits, finish_draft, most_in, read_draft};
 use crate::faults::BuildFault;
 use crate::links::Links;
 use crate::nodes::Nodes;
-use crate::scales::{all_fit, most_decimals, scale_of};
+use crate::scales::scale_of;
 use crate::sizes::count_rows;
 use crate::utilities::utility_numbers;
 use net_parser::Syntax;
@@ -86,13 +86,14 @@ fn read_drafts(
 
 // The most decimals that one of the values has.
 fn most_of(drafts: &[Draft]) -> u32
+    requires few { All (HasDecimalsAtMost MOST_DECIMALS) drafts.now }
     ensures most { All (HasDecimalsAtMost result) drafts.now }
     ensures reached { 0 < result → IsReachedByOne drafts.now result }
     ensures few { result ≤ MOST_DECIMALS }
 {
     let mut most = 0;
     for draft in drafts {
-        let here = most_decimals(values(draft));
+        let here = most_in(draft);
         if here > most {
             most = here;
         }
@@ -107,7 +108,7 @@ fn drafts_fit(drafts: &[Draft], scale: u32) -> bool
     ensures { IsTrue result ↔ All (FitsDraft scale) drafts.now }
 {
     for draft in drafts {
-        if !all_fit(values(draft), scale) {
+        if !draft_fits(draft, scale) {
             return false;
         }
     }

@@ -1,20 +1,10 @@
--- A draft fits where its values do.
-use Rattle.std.proofs.Common.{◌≡◌, ◌⊎◌, inl, inr, ℕ, ◌+◌, ◌<◌, List, length, get_or, All, refl, sym, subst, ◌∙◌, arith}
+-- All drafts fit where each does.
+use Rattle.std.proofs.Common.{◌≡◌, ◌⊎◌, inl, inr, ℕ, ◌+◌, ◌<◌, List, length, get_or, refl, sym, subst, ◌∙◌, arith}
 use Rattle.std.proofs.lemmas.Bool.{false≢true}
 use Rattle.std.proofs.lemmas.List.{get_or_default}
-use Rattle.std.proofs.lemmas.List.Elements.{All-nil}
 use Rattle.net_build.specs.declared.drafts.Draft.{Draft}
-use Rattle.net_build.specs.declared.drafts.Draft.TheVariants.{Cells, Values}
-use Rattle.net_build.specs.TableParts.{Fits, FitsDraft, HasDecimalsAtMost, values_of}
+use Rattle.net_build.specs.TableParts.{FitsDraft}
 use Rattle.net_build.proofs.tables.drafts_fit.Goals as goal
-
-draft_fits : (scale : ℕ) (draft : Draft) → HasDecimalsAtMost scale draft → All (Fits scale) (values_of draft) → FitsDraft scale draft
-draft_fits scale (Cells cells) enough all = tt
-draft_fits scale (Values decimals) enough all = (enough, all)
-
-values_fit : (scale : ℕ) (draft : Draft) → FitsDraft scale draft → All (Fits scale) (values_of draft)
-values_fit scale (Cells cells) fits = All-nil (Fits scale)
-values_fit scale (Values decimals) fits = fits.1
 
 -- the drafts before a place, and the one there
 next_fits : (scale : ℕ) (drafts : List Draft) (i : ℕ) (draft : Draft) → draft ≡ get_or drafts i draft → i < length drafts → ((k : ℕ) (d : Draft) → k < i → FitsDraft scale (get_or drafts k d)) → FitsDraft scale draft → (k : ℕ) (d : Draft) → k < i + 1 → FitsDraft scale (get_or drafts k d)
@@ -26,18 +16,15 @@ next_fits scale drafts i draft is within so its k d near = by_place (split k i n
   by_place (inl l) = so k d l
   by_place (inr at) = subst (λ n. FitsDraft scale (get_or drafts n d)) (sym at) (subst (FitsDraft scale) (is ∙ get_or_default drafts i draft d within) its)
 
-pub returns-then-not-all_fit : goal.returns-then-not-all_fit
-returns-then-not-all_fit c = (
+pub returns-then-not-draft_fits : goal.returns-then-not-draft_fits
+returns-then-not-draft_fits c = (
   (λ t. absurd (false≢true t)),
-  λ all. sym c.if-not-all_fit.true
-      ∙ c.all_fit.ensures.1 (subst (All (Fits c.args.scale)) (sym c.values.ensures) (values_fit c.args.scale c.draft-item.result (subst (FitsDraft c.args.scale) (sym c.draft-item.is) (all c.loop-draft.draft-index c.draft-item.result c.loop-draft-test.true)))),
+  λ all. sym c.if-not-draft_fits.true
+      ∙ c.draft_fits.ensures.1 (subst (FitsDraft c.args.scale) (sym c.draft-item.is) (all c.loop-draft.draft-index c.draft-item.result c.loop-draft-test.true)),
 )
 
 pub loop-draft-preserved : goal.loop-draft-preserved
-loop-draft-preserved c = next_fits c.args.scale c.args.drafts.now c.loop-draft.draft-index c.draft-item.result c.draft-item.is c.loop-draft-test.true c.loop-draft.invariant
-    (draft_fits c.args.scale c.draft-item.result
-    (subst (HasDecimalsAtMost c.args.scale) (sym c.draft-item.is) (c.requires.enough c.loop-draft.draft-index c.draft-item.result c.loop-draft-test.true))
-    (subst (All (Fits c.args.scale)) c.values.ensures (c.all_fit.ensures.0 c.if-not-all_fit.false)))
+loop-draft-preserved c = next_fits c.args.scale c.args.drafts.now c.loop-draft.draft-index c.draft-item.result c.draft-item.is c.loop-draft-test.true c.loop-draft.invariant (c.draft_fits.ensures.0 c.if-not-draft_fits.false)
 
 pub returns : goal.returns
 returns c = ((λ t k d h. c.loop-draft.invariant k d (omega (arith, h, c.loop-draft-test.false))), λ all. refl)

@@ -13,7 +13,7 @@ use Rattle.net_build.specs.Passes.{build_fault}
 use Rattle.net_build.specs.Blocks.{block_name, node_blocks}
 use Rattle.net_build.specs.Stages.{head_of, link_lists}
 use Rattle.net_build.specs.TableParts.{IsScaleOf, scaled_pass, values_in}
-use Rattle.net_build.proofs.DraftScales.{scale_of_them, none_wide_of_them}
+use Rattle.net_build.proofs.DraftScales.{drafts_few, scale_of_them, none_wide_of_them}
 use Rattle.net_build.proofs.ScaleLemmas.{scaled_passes}
 use Rattle.net_build.proofs.TableLast.{all_own, all_number, all_short, tokens_read}
 use Rattle.net_build.proofs.tables.utility_scale.Goals as goal
@@ -42,7 +42,7 @@ pub returns-clause-rows : goal.returns-clause-rows
 returns-clause-rows c = subst (λ tokens. Passes build_fault (scaled_pass c.args.text.now tokens) c.scale_of.result) (c.deref.ensures.value ∙ c.in_ok-numbers.ensures) c.scale_of.ensures.rows
 
 pub most_of-most-requires : goal.most_of-most-requires
-most_of-most-requires c = tt
+most_of-most-requires c = record { few = drafts_few c.args.text.now c.args.nodes.now.heads (link_lists c.args.text.now c.args.syntax.now) c.args.drafts.now c.requires.drafts }
 
 pub drafts_fit-requires-clause-enough : goal.drafts_fit-requires-clause-enough
 drafts_fit-requires-clause-enough c = c.most_of-most.ensures.most
