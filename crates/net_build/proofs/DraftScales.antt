@@ -61,7 +61,7 @@ draft_least : (text : List ℕ) (most k rows states : ℕ) (kind : Kind) (tokens
 draft_least text most k rows states kind tokens (Cells cells) reached is fewer all = reached
 draft_least text most k rows states model.Utility tokens (Values ds) (i, h, at) is fewer all = values_least text most k tokens ds.items i is.0 h at fewer (all refl)
 draft_least text most k rows states model.Utility tokens (Scaled cells own) reached is fewer all =
-    let one = is.2.reached (omega (arith, reached, fewer)) in
+    let one = is.2.scale.reached (omega (arith, reached, fewer)) in
     values_least text most k tokens is.0 one.0 is.1 one.1 (one.2 ∙ reached) fewer (all refl)
 draft_least text most k rows states model.Chance tokens (Values ds) reached is fewer all = is
 draft_least text most k rows states model.Chance tokens (Scaled cells own) reached is fewer all = is

@@ -53,24 +53,24 @@ scale_enough ds k cells scale are few = by_order (order k) where
 
   by_order : (k ≡ 0) ⊎ (0 < k) → k ≤ scale
   by_order (inl e) = omega (arith, e)
-  by_order (inr some) = of_one (are.reached some)
+  by_order (inr some) = of_one (are.scale.reached some)
 
 module _ (ds : List Decimal) (k : ℕ) (cells : List ℤ) (are : AreScaled ds k cells) (scale : ℕ) (enough : k ≤ scale) where
   pub few_to : All (λ d. d.k ≤ scale) ds
-  few_to i d h = omega (arith, enough, are.most i d h)
+  few_to i d h = omega (arith, enough, are.scale.most i d h)
 
   pub raised_are : map (raised_by (scale - k)) cells ≡ map (value_at_scale scale) ds
-  raised_are = ap (map (raised_by (scale - k))) are.cells_are ∙ all_again ds k scale are.most enough
+  raised_are = ap (map (raised_by (scale - k))) are.cells_are ∙ all_again ds k scale are.scale.most enough
 
   -- the values fit where the cells can be raised, and only there
   pub fit_to : All (FitsRaised (scale - k)) cells → All (Fits scale) ds
   fit_to all i d h =
       let within : i < length (map (value_at_scale k) ds) = omega (arith, h, length-map ds (value_at_scale k)) in
       let here : FitsRaised (scale - k) (value_at_scale k (get_or ds i d)) = subst (FitsRaised (scale - k)) (get_or-map (value_at_scale k) ds i d (pos 0) h) (subst (All (FitsRaised (scale - k))) are.cells_are all i (pos 0) within) in
-      subst (λ n. n ≤ greatest_number) (size_again (get_or ds i d) k scale (are.most i d h) enough) here
+      subst (λ n. n ≤ greatest_number) (size_again (get_or ds i d) k scale (are.scale.most i d h) enough) here
 
   pub fit_from : All (Fits scale) ds → All (FitsRaised (scale - k)) cells
-  fit_from all = subst (All (FitsRaised (scale - k))) (sym are.cells_are) (All-map (FitsRaised (scale - k)) (value_at_scale k) ds (λ i d h. subst (λ n. n ≤ greatest_number) (sym (size_again (get_or ds i d) k scale (are.most i d h) enough)) (all i d h)))
+  fit_from all = subst (All (FitsRaised (scale - k))) (sym are.cells_are) (All-map (FitsRaised (scale - k)) (value_at_scale k) ds (λ i d h. subst (λ n. n ≤ greatest_number) (sym (size_again (get_or ds i d) k scale (are.scale.most i d h) enough)) (all i d h)))
 
 -- raising one cell
 small_fits : (x : ℤ) → unsigned_abs x ≤ greatest_number → FitsSigned w128 x

@@ -43,14 +43,21 @@ abbrev pub IsReachedIn : List Decimal → ℕ → Type 0
 IsReachedIn decimals most =
     (i : ℕ) × (i < length decimals) × ((decimal_at decimals i).k ≡ most)
 
--- the cells are the decimals times 10^k, where k is the most digits that one has behind its point
-pub record AreScaled (decimals : List Decimal) (k : ℕ) (cells : List ℤ) : Type 0 where
+-- the most digits that one of the decimals has behind its point
+pub record IsMostIn (decimals : List Decimal) (k : ℕ) : Type 0 where
   -- none has more
   pub most : All (λ d. d.k ≤ k) decimals
   -- one has so many, unless all are whole
   pub reached : 0 < k → IsReachedIn decimals k
-  -- each is a cell
+
+-- the cells are the decimals times 10^k, where k is the most digits that one has behind its point
+pub record AreScaled (decimals : List Decimal) (k : ℕ) (cells : List ℤ) : Type 0 where
+  pub scale : IsMostIn decimals k
   pub cells_are : cells ≡ map (value_at_scale k) decimals
+
+-- one of the decimals is beyond the limits to the scale that makes all of them whole
+abbrev pub AreWide : List Decimal → Type 0
+AreWide decimals = (k : ℕ) × IsMostIn decimals k × (All (Fits k) decimals → ⊥)
 
 -- the cell times 10^more
 abbrev pub raised_by : ℕ → ℤ → ℤ
@@ -130,10 +137,10 @@ abbrev pub IsDraftFrom : List ℕ → Kind → ℕ → ℕ → List Token → Dr
 IsDraftFrom text kind rows states tokens draft =
     IsDraftOf kind rows states (map (token_bytes text) tokens) draft
 
--- what is kept of a utility's values: their cells, or the values themselves
+-- what is kept of a utility's values: their cells, and the values themselves where they are wide
 abbrev pub IsValueDraft : List Decimal → Draft → Type 0
 IsValueDraft decimals (Cells cells) = ⊥
-IsValueDraft decimals (Values same) = same.items ≡ decimals
+IsValueDraft decimals (Values same) = (same.items ≡ decimals) × AreWide decimals
 IsValueDraft decimals (Scaled cells k) = AreScaled decimals k cells.items
 
 -- none of a utility's values has more decimals
