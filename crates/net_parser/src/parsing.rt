@@ -34,8 +34,8 @@ pub enum ParseFault {
 }
 
 /// The tree that the tokens of the text spell, or their first impossible token. Reading is linear
-/// in the tokens, and takes memory for the tree alone: none for the tokens in a list that holds no
-/// list.
+/// in the tokens, and takes memory for the blocks, their names and 16 bytes an attribute: values are
+/// lent from the tokens.
 pub fn parse<'a>(alloc: Global, text: &[u8], tokens: &'a Tokens) -> Result<Syntax<'a>, ParseFault>
     requires { IsTokens text.now tokens.now }
     // The tree is spelled by the tokens, each of them.
