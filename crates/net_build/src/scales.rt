@@ -49,6 +49,10 @@ fn scaled(number: Decimal, scale: u32) -> Option<i128>
     requires few { scale ≤ MOST_DECIMALS }
     ensures { SomeIff result (Fits scale number) (value_at_scale scale number) }
 {
+    // Most numbers have as many decimals as the finest one has.
+    if number.k == scale {
+        return Some(number.m);
+    }
     let tens = 10u128.pow(scale - number.k);
     let size = mul_within(number.m.unsigned_abs(), tens, GREATEST_NUMBER)?;
     Some(signed(number.m < 0, size))
