@@ -50,9 +50,11 @@ pub record IsMostIn (decimals : List Decimal) (k : ℕ) : Type 0 where
   -- one has so many, unless all are whole
   pub reached : 0 < k → IsReachedIn decimals k
 
--- the cells are the decimals times 10^k, where k is the most digits that one has behind its point
+-- the cells are the decimals to the scale that they need, k
 pub record AreScaled (decimals : List Decimal) (k : ℕ) (cells : List ℤ) : Type 0 where
+  -- none needs more, and one so many
   pub scale : IsMostIn decimals k
+  -- each is a decimal times 10^k
   pub cells_are : cells ≡ map (value_at_scale k) decimals
 
 -- one of the decimals is beyond the limits to the scale that makes all of them whole
@@ -119,7 +121,7 @@ numerals_in text potential =
     map (token_bytes text) (option_map_or (λ p. leaves_of (data_of text p)) potential [])
 
 -- what is known of a node's table before the scale of utilities is: a chance node's weights, and a
--- utility's values
+-- utility's values, as they are or to a scale of their own
 abbrev pub IsDraftOf : Kind → ℕ → ℕ → List (List ℕ) → Draft → Type 0
 IsDraftOf Chance rows states numerals (Cells cells) = (decimals : List Decimal)
     × AreDecimals numerals decimals × IsWeighed decimals states cells.items

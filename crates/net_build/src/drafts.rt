@@ -18,7 +18,7 @@ use crate::leaves::leaves;
 use crate::nodes::Head;
 use crate::numbers::read_numbers;
 use crate::plain_tables::plain_draft;
-use crate::scales::{all_fit, can_raise, most_decimals, raise, scaled_cells};
+use crate::scales::{all_fit, can_raise, cells_within, most_decimals, raise, scaled_cells};
 use crate::weights::weights;
 use maid_model::Kind;
 use net_lexer::Token;
@@ -37,20 +37,19 @@ pub enum Draft {
     Scaled { cells: Vec<i128>, decimals: u32 },
 }
 
-// A utility's table. Its values as they are written take twice the room of its cells, and are kept
-// only where one of them is too great or too little.
+// A utility's table. Its values take twice the room of its cells, and are kept only where one of
+// them is too great or too little.
 fn value_draft(alloc: Global, decimals: Vec<Decimal>) -> Result<Draft, AllocError>
     ensures { IfOk result (IsValueDraft decimals.items) }
 {
     let most = most_decimals(&decimals);
-    if !all_fit(&decimals, most) {
-        return Ok(Draft::Values(decimals));
+    match cells_within(alloc, &decimals, most)? {
+        Some(cells) => Ok(Draft::Scaled {
+            cells,
+            decimals: most,
+        }),
+        None => Ok(Draft::Values(decimals)),
     }
-    let cells = scaled_cells(alloc, &decimals, most)?;
-    Ok(Draft::Scaled {
-        cells,
-        decimals: most,
-    })
 }
 
 // The table in the value of `data`, whose leaves these are.

@@ -9,6 +9,7 @@ ghost use Rattle.first_fault.specs.Passes.{each};
 ghost use Rattle.first_fault.specs.Answers.{Passes};
 ghost use Rattle.net_build.specs.Passes.{build_fault};
 ghost use Rattle.net_build.specs.Table.{length_row, wide_row};
+ghost use Rattle.net_build.specs.Answered.{IfFound, IfNotFound};
 ghost use Rattle.net_build.specs.TableParts.{IsReachedIn, IsScaleOf, scaled_pass, value_at_scale, Fits, FitsRaised, PassesValues, raised_by};
 ghost use Rattle.net_lexer.specs.Token.{IsTokenOf};
 ghost use Rattle.weight_scale.specs.Numeral.{signed};
@@ -104,6 +105,27 @@ pub fn scale_of(alloc: Global, text: &[u8], tokens: &[Token]) -> Result<u32, Bui
     Ok(scale)
 }
 
+/// The numbers times 10^scale, where each of them then lies within the limits.
+pub fn cells_within(
+    alloc: Global,
+    decimals: &[Decimal],
+    scale: u32,
+) -> Result<Option<Vec<i128>>, AllocError>
+    requires enough { All (λ d. d.k ≤ scale) decimals.now }
+    requires few { scale ≤ MOST_DECIMALS }
+    ensures cells { IfFound result (λ c. c.items ≡ map (value_at_scale scale) decimals.now) }
+    ensures none { IfNotFound result (All (Fits scale) decimals.now → ⊥) }
+{
+    let mut cells = Vec::with_capacity(alloc, decimals.len())?;
+    for decimal in decimals {
+        let Some(cell) = scaled(*decimal, scale) else {
+            return Ok(None);
+        };
+        cells.push(cell)?;
+    }
+    Ok(Some(cells))
+}
+
 /// The numbers times 10^scale.
 pub fn scaled_cells(
     alloc: Global,
@@ -115,14 +137,10 @@ pub fn scaled_cells(
     requires narrow { All (Fits scale) decimals.now }
     ensures { IfOk result (λ cells. cells.items ≡ map (value_at_scale scale) decimals.now) }
 {
-    let mut cells = Vec::with_capacity(alloc, decimals.len())?;
-    for decimal in decimals {
-        let Some(cell) = scaled(*decimal, scale) else {
-            unreachable!()
-        };
-        cells.push(cell)?;
+    match cells_within(alloc, decimals, scale)? {
+        Some(cells) => Ok(cells),
+        None => unreachable!(),
     }
-    Ok(cells)
 }
 
 /// Each cell times 10^decimals lies within the limits.

@@ -7,10 +7,13 @@ use Rattle.std.specs.Int.{w128}
 use borrow.Author.Count.{falls}
 use Rattle.std.proofs.Common.{◌≤◌, rules, map, FitsSigned, subst, sym, ap, ◌∙◌}
 use Rattle.std.proofs.lemmas.Result.{IfOk-from_err}
-use Rattle.net_build.proofs.scales.scaled_cells.Goals as goal
+use Rattle.net_build.proofs.scales.cells_within.Goals as goal
 
-pub returns-in_err-cells : goal.returns-in_err-cells
-returns-in_err-cells c = IfOk-from_err _ _ c.from_residual.ensures.0
+pub returns-in_err-cells-clause-cells : goal.returns-in_err-cells-clause-cells
+returns-in_err-cells-clause-cells c = IfOk-from_err _ _ c.from_residual.ensures.0
+
+pub returns-in_err-cells-clause-none : goal.returns-in_err-cells-clause-none
+returns-in_err-cells-clause-none c = IfOk-from_err _ _ c.from_residual.ensures.0
 
 pub loop-decimal-init : goal.loop-decimal-init
 loop-decimal-init c = c.in_ok-cells.ensures.items
@@ -24,11 +27,14 @@ scaled-requires-clause-enough c = subst (λ (d : Decimal). d.k ≤ c.args.scale)
 pub scaled-requires-clause-few : goal.scaled-requires-clause-few
 scaled-requires-clause-few c = c.requires.few
 
-pub unreachable-requires : goal.unreachable-requires
-unreachable-requires c = c.in_default.ensures (subst (Fits c.args.scale) (sym c.decimal-item.is) (c.requires.narrow c.loop-decimal.decimal-index c.decimal-item.result c.loop-decimal-test.true))
+pub returns-in_default-clause-none : goal.returns-in_default-clause-none
+returns-in_default-clause-none c = λ all. c.in_default.ensures (subst (Fits c.args.scale) (sym c.decimal-item.is) (all c.loop-decimal.decimal-index c.decimal-item.result c.loop-decimal-test.true))
 
-pub returns-in_err-push : goal.returns-in_err-push
-returns-in_err-push c = IfOk-from_err _ _ c.from_residual-in_err-push.ensures.0
+pub returns-in_err-push-clause-cells : goal.returns-in_err-push-clause-cells
+returns-in_err-push-clause-cells c = IfOk-from_err _ _ c.from_residual-in_err-push.ensures.0
+
+pub returns-in_err-push-clause-none : goal.returns-in_err-push-clause-none
+returns-in_err-push-clause-none c = IfOk-from_err _ _ c.from_residual-in_err-push.ensures.0
 
 pub loop-decimal-smaller : goal.loop-decimal-smaller
 loop-decimal-smaller c = falls _ _ c.loop-decimal-test.true
@@ -39,5 +45,5 @@ loop-decimal-preserved c =
     let pushed = simp to_z-of_z at c.in_ok-push.ensures.items in
     map_more (value_at_scale c.args.scale) c.args.decimals.now c.loop-decimal.cells.items c.push.new.self.items c.loop-decimal.decimal-index c.decimal-item.result c.in-Some.cell c.loop-decimal-test.true c.decimal-item.is c.in-Some.ensures.1 c.loop-decimal.invariant pushed
 
-pub returns : goal.returns
-returns c = c.loop-decimal.invariant ∙ ap (map (value_at_scale c.args.scale)) (take_all c.loop-decimal.decimal-index c.args.decimals.now c.loop-decimal-test.false)
+pub returns-clause-cells : goal.returns-clause-cells
+returns-clause-cells c = c.loop-decimal.invariant ∙ ap (map (value_at_scale c.args.scale)) (take_all c.loop-decimal.decimal-index c.args.decimals.now c.loop-decimal-test.false)
