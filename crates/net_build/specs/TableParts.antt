@@ -54,6 +54,8 @@ pub record IsMostIn (decimals : List Decimal) (k : ℕ) : Type 0 where
 pub record AreScaled (decimals : List Decimal) (k : ℕ) (cells : List ℤ) : Type 0 where
   -- none needs more, and one so many
   pub scale : IsMostIn decimals k
+  -- to it they are within the limits
+  pub fit : All (Fits k) decimals
   -- each is a decimal times 10^k
   pub cells_are : cells ≡ map (value_at_scale k) decimals
 

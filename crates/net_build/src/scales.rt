@@ -114,6 +114,7 @@ pub fn cells_within(
     requires enough { All (λ d. d.k ≤ scale) decimals.now }
     requires few { scale ≤ MOST_DECIMALS }
     ensures cells { IfFound result (λ c. c.items ≡ map (value_at_scale scale) decimals.now) }
+    ensures fit { IfFound result (λ _. All (Fits scale) decimals.now) }
     ensures none { IfNotFound result (All (Fits scale) decimals.now → ⊥) }
 {
     let mut cells = Vec::with_capacity(alloc, decimals.len())?;
