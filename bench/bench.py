@@ -67,6 +67,11 @@ def tokens():
     return filled(coins(MOST_NODES - 1) + "node Last { ", "x=1;", ' states = ("a"); } potential (Last) { data = 1; }\n')
 
 
+def small_lists():
+    """Attributes that are read over, each a list of two numbers."""
+    return filled(coins(MOST_NODES - 1) + "node Last { ", "x=(1 2);", ' states = ("a"); } potential (Last) { data = 1; }\n')
+
+
 def brackets():
     """Numbers inside 32 lists each, the deepest that is allowed, and nothing between the tokens."""
     value = "x=" + "(" * 32 + "1" + ")" * 32 + ";"
@@ -90,15 +95,31 @@ def chance_tables():
     return nodes + first + tables + rest
 
 
+def utilities(count, data):
+    """`count` utilities with that table over the same two nodes of 256 states: 65,536 worlds."""
+    others = MOST_NODES - count
+    nodes = "".join(f"node N{i} {{ states = {labels(MOST_STATES if i < 2 else 1)}; }}\n" for i in range(others))
+    heads = "".join(f"utility U{i} {{ }}\n" for i in range(count))
+    chances = "".join(
+        f"potential (N{i}) {{ data = {numbers(MOST_STATES if i < 2 else 1)}; }}\n" for i in range(others)
+    )
+    tables = "".join(f"potential (U{i} | N0 N1) {{ data = {data}; }}\n" for i in range(count))
+    return nodes + heads + chances + tables
+
+
 def utility_tables():
     """31 utilities of 65,536 values over the same two nodes: 65,536 worlds."""
-    nodes = "".join(f"node N{i} {{ states = {labels(MOST_STATES if i < 2 else 1)}; }}\n" for i in range(MOST_NODES - 31))
-    utilities = "".join(f"utility U{i} {{ }}\n" for i in range(31))
-    chances = "".join(
-        f"potential (N{i}) {{ data = {numbers(MOST_STATES if i < 2 else 1)}; }}\n" for i in range(MOST_NODES - 31)
-    )
-    tables = "".join(f"potential (U{i} | N0 N1) {{ data = {numbers(MOST_STATES ** 2)}; }}\n" for i in range(31))
-    return nodes + utilities + chances + tables
+    return utilities(31, numbers(MOST_STATES**2))
+
+
+def utility_rows():
+    """The same, each row of 256 values in a list of its own."""
+    return utilities(31, "(" + numbers(MOST_STATES) * MOST_STATES + ")")
+
+
+def utility_decimals():
+    """14 utilities of 65,536 values with up to three decimals."""
+    return utilities(14, "(" + "1 2.5 0.125 -7.25 " * (MOST_STATES**2 // 4) + ")")
 
 
 def long_data():
@@ -194,10 +215,13 @@ def ring():
 SHAPES = {
     "comments": comments,
     "tokens": tokens,
+    "small_lists": small_lists,
     "brackets": brackets,
     "string": string,
     "chance_tables": chance_tables,
     "utility_tables": utility_tables,
+    "utility_rows": utility_rows,
+    "utility_decimals": utility_decimals,
     "long_data": long_data,
     "many_decimals": many_decimals,
     "long_names": long_names,

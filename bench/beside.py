@@ -3,10 +3,11 @@
 
     bench/beside.py FOLDER OURS OTHER [WORD..]
 
-FOLDER has the texts that RUNS names; those that are not there are left out. WORD.. stand before the
-form's own words in OTHER's runs. Each run is taken REPS times (5 where the environment does not say),
-ours and the other's in turn; the least processor time of each counts. The last line has the worst
-ratio. Where the two write other bytes or end with another status, the script says so and ends with 1.
+FOLDER has the texts that RUNS names, of which `bench.py --keep FOLDER` writes those at the limits; those
+that are not there are left out. WORD.. stand before the form's own words in OTHER's runs. Each run is
+taken REPS times (5 where the environment does not say), ours and the other's in turn; the least processor
+time of each counts. The last line has the worst ratio. Where the two write other bytes or end with
+another status, the script says so and ends with 1.
 """
 
 import os
@@ -21,6 +22,10 @@ RUNS = [
     "control one60.net A", "control demo60.net agent", "update one60.net", "update demo60.net",
     "update leaves20.net", "given maid60.net S0 1", "threshold maid60.net S0 1 1", "pure pure16.net",
     "check leaves20.net leaves20.report",
+    "print comments.net", "print tokens.net", "print small_lists.net", "print brackets.net", "print string.net",
+    "print chance_tables.net", "print utility_tables.net", "solve utility_tables.net", "solve utility_rows.net",
+    "solve utility_decimals.net", "print long_data.net", "print many_decimals.net", "print long_names.net",
+    "solve worlds.net", "solve chain.net", "graph decisions.net", "trim decisions.net", "graph ring.net",
 ]
 
 
